@@ -1,0 +1,13 @@
+pub mod Weak
+pub mod Order
+pub mod Signed
+pub mod Floating
+pub mod Heap
+pub mod Le
+pub mod Up
+pub mod Down
+pub mod Content
+pub mod Push
+pub mod Take
+pub mod Empty
+pub mod Least

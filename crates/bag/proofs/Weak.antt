@@ -1,0 +1,75 @@
+-- The order of pairs over an order of keys in which unequal keys may tie, which is all that a heap needs. Assumes nothing.
+use mathlib.Core.Path.{_≡_, refl, sym, ap, _∙_}
+use mathlib.Core.Bool.{Bool, true, false, not, _&&_, _||_, true≢false}
+use Prim.Native.Nat.{ℕ, _≤_}
+use native.Mathlib.Omega.{arith}
+use lib.Dec.{ltb}
+use borrow.Author.Tests.{ltb-true, ltb-false, le-ltb}
+use Rattle.bag.specs.Order.{pick, before, IsOrder}
+
+-- lt orders the good keys, but where it fails both ways the keys need not be one
+pub record IsWeakOrder {K : Type 0} (lt : K → K → Bool) (ok : K → Type 0) : Type 0 where
+  pub asym : (a b : K) → ok a → ok b → lt a b ≡ true → lt b a ≡ false
+  pub neg : (a b c : K) → ok a → ok b → ok c → lt a b ≡ false → lt b c ≡ false → lt a c ≡ false
+
+-- every order is one
+pub weak : {K : Type 0} {lt : K → K → Bool} {ok : K → Type 0} → IsOrder lt ok → IsWeakOrder lt ok
+weak O = record { asym = O .asym; neg = O .neg }
+
+-- both tests run, and their answers are joined: the same choice
+joined : (a b c : Bool) → (a || (not b && c)) ≡ pick a true (pick b false c)
+joined true b c = refl
+joined false true c = refl
+joined false false c = refl
+
+module _ {K : Type 0} (lt : K → K → Bool) where
+  -- the test without a branch
+  pub before-is : (k : K) (i : ℕ) (l : K) (j : ℕ) → (lt k l || (not (lt l k) && ltb i j)) ≡ before lt k i l j
+  unfolding before
+  before-is k i l j = joined (lt k l) (lt l k) (ltb i j)
+
+  -- what it is not to stand before: the other key is no greater, and where the keys tie neither is its index
+  pub not-before : (k : K) (i : ℕ) (l : K) (j : ℕ) → before lt k i l j ≡ false → (lt k l ≡ false) × (lt l k ≡ false → j ≤ i)
+  unfolding before
+  not-before k i l j e = go (lt k l) refl (lt l k) refl e
+    where
+      go : (s : Bool) → lt k l ≡ s → (t : Bool) → lt l k ≡ t → pick s true (pick t false (ltb i j)) ≡ false → (lt k l ≡ false) × (lt l k ≡ false → j ≤ i)
+      go true p t q f = absurd (true≢false f)
+      go false p true q f = (p, λ g. absurd (true≢false (sym q ∙ g)))
+      go false p false q f = (p, λ g. ltb-false i j f)
+
+  -- and when it is so
+  pub is-not-before : (k : K) (i : ℕ) (l : K) (j : ℕ) → lt k l ≡ false → (lt l k ≡ false → j ≤ i) → before lt k i l j ≡ false
+  unfolding before
+  is-not-before k i l j e f = ap (λ (t : Bool). pick t true (pick (lt l k) false (ltb i j))) e ∙ go (lt l k) refl
+    where
+      go : (t : Bool) → lt l k ≡ t → pick t false (ltb i j) ≡ false
+      go true p = refl
+      go false p = le-ltb i j (f p)
+
+module _ {K : Type 0} {lt : K → K → Bool} {ok : K → Type 0} (W : IsWeakOrder lt ok) where
+  -- no key is below itself
+  pub self : (a : K) → ok a → lt a a ≡ false
+  self a o = go (lt a a) refl
+    where
+      go : (t : Bool) → lt a a ≡ t → lt a a ≡ false
+      go false e = e
+      go true e = W .asym a a o o e
+
+  -- one of the two stands first
+  pub before-or : (k : K) (i : ℕ) (l : K) (j : ℕ) → ok k → ok l → before lt k i l j ≡ true → before lt l j k i ≡ false
+  unfolding before
+  before-or k i l j x y e = go (lt k l) refl (lt l k) refl e
+    where
+      go : (s : Bool) → lt k l ≡ s → (t : Bool) → lt l k ≡ t → pick s true (pick t false (ltb i j)) ≡ true → before lt l j k i ≡ false
+      go true p t q f = is-not-before lt l j k i (W .asym k l x y p) (λ g. absurd (true≢false (sym p ∙ g)))
+      go false p true q f = absurd (true≢false (sym f))
+      go false p false q f = is-not-before lt l j k i q (λ g. omega (arith, ltb-true i j f))
+
+  -- it is passed on where it fails
+  pub before-neg : (k : K) (i : ℕ) (l : K) (j : ℕ) (m : K) (h : ℕ) → ok k → ok l → ok m → before lt k i l j ≡ false → before lt l j m h ≡ false → before lt k i m h ≡ false
+  before-neg k i l j m h x y z e f =
+      let p = not-before lt k i l j e in
+      let q = not-before lt l j m h f in
+      is-not-before lt k i m h (W .neg k l m x y z (p .0) (q .0))
+      (λ g. let a : j ≤ i = p .1 (W .neg l m k y z x (q .0) g) in let b : h ≤ j = q .1 (W .neg m k l z x y g (p .0)) in omega arith)

@@ -1,0 +1,7 @@
+pub mod Order
+pub mod Content
+pub mod Keys
+pub mod Ints
+pub mod Floats
+pub mod Heap
+pub mod Bag

@@ -1,0 +1,8 @@
+pub mod Dist
+pub mod Cost
+pub mod Real
+pub mod BitOrder
+pub mod Whole
+pub mod None
+pub mod Arc
+pub mod Past

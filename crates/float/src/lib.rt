@@ -1,0 +1,67 @@
+// f64 costs, lent as bit patterns, and f64 distances: what one arc of a search does with them.
+ghost use mathlib.Core.Path.{_≡_};
+ghost use mathlib.Core.Bool.{false};
+ghost use lib.Ieee.{binary64};
+ghost use Rattle.float.specs.Dist.{plus64};
+ghost use Rattle.float.specs.Cost.{badCost};
+ghost use Rattle.float.specs.Cutoff.{past};
+ghost use Rattle.float.specs.Relax.{relaxOf, betterThan};
+
+// A cutoff: none, or at a value, which may be any.
+pub enum Cutoff {
+    None,
+    At(f64),
+}
+
+// What an arc comes to: a bad cost, a total past the cutoff, or a total.
+pub enum Relaxed {
+    Bad,
+    Cut,
+    Sum(f64),
+}
+
+// Is the sign bit set, or is it a NaN? As numbers these are the patterns past that of +infinity.
+pub fn bad_cost(bits: u64) -> bool
+    ensures { λ r. ⌜ r ≡ badCost binary64 bits ⌝ }
+{
+    bits > 0x7ff0_0000_0000_0000
+}
+
+// A distance and a good cost, added.
+pub fn plus(d: f64, bits: u64) -> f64
+    requires { ⌜ badCost binary64 bits ≡ false ⌝ }
+    ensures { λ r. ⌜ r ≡ plus64 d bits ⌝ }
+{
+    d + f64::from_bits(bits)
+}
+
+// Is the total past the cutoff?
+pub fn cuts(cutoff: Cutoff, next: f64) -> bool
+    ensures { λ r. ⌜ r ≡ past cutoff next ⌝ }
+{
+    match cutoff {
+        Cutoff::None => false,
+        Cutoff::At(limit) => next > limit,
+    }
+}
+
+// Is the total to be stored over what is there?
+pub fn better(next: f64, stored: f64) -> bool
+    ensures { λ r. ⌜ r ≡ betterThan next stored ⌝ }
+{
+    stored == clean::NONE_F64 || next < stored
+}
+
+// One arc from an index at distance d.
+pub fn relax(d: f64, bits: u64, cutoff: Cutoff) -> Relaxed
+    ensures { λ r. ⌜ r ≡ relaxOf d bits cutoff ⌝ }
+{
+    if bad_cost(bits) {
+        return Relaxed::Bad;
+    }
+    let next = plus(d, bits);
+    if cuts(cutoff, next) {
+        return Relaxed::Cut;
+    }
+    Relaxed::Sum(next)
+}

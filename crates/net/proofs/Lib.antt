@@ -1,0 +1,4 @@
+pub mod Nodes
+pub mod Bounds
+pub mod Same
+pub mod Lists

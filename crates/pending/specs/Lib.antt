@@ -1,0 +1,9 @@
+pub mod Setting
+pub mod Literal
+pub mod OnePlace
+pub mod Laws
+pub mod Ints
+pub mod Floats
+pub mod Reach
+pub mod Answers
+pub mod Content

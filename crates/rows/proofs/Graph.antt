@@ -1,0 +1,118 @@
+-- The arcs of the neighbour list are those of the links it was made of, and it fits a search.
+-- Assumes nothing.
+use mathlib.Core.Path.{_≡_, refl, sym, ap, _∙_, subst}
+use mathlib.Core.Bool.{Bool}
+use mathlib.Core.List.{List, map}
+use Prim.Native.Nat.{ℕ, suc, _+_, _-_, _≤_, _<_}
+use native.Mathlib.Numerals.{add-one}
+use native.Mathlib.Omega.{arith}
+use lib.ListN.{length, getD, take, drop, List·getD-map}
+use lib.Seq.{getD-take, getD-drop, drop-drop}
+use Rattle.table.specs.Links.{Link, linkOf, row, starts, arcs, Arc}
+use Rattle.clean.proofs.Filled.{no-default}
+use Rattle.rows.specs.Rows.{Lists, Room, Rows}
+use Rattle.rows.specs.RowArc.{RowArc, Sound}
+use Rattle.rows.proofs.Segments.{starts-le}
+use Rattle.rows.proofs.Members.{arc-row}
+
+-- the lengths stay, and so does what is past m + 1 offsets and past a places
+pub record Kept {C : Type 0} (m a : ℕ) (s₀ s : Lists C) : Type 0 where
+  pub longO : length (s .offsets) ≡ length (s₀ .offsets)
+  pub longH : length (s .heads) ≡ length (s₀ .heads)
+  pub longW : length (s .weights) ≡ length (s₀ .weights)
+  pub restO : drop (m + 1) (s .offsets) ≡ drop (m + 1) (s₀ .offsets)
+  pub restH : drop a (s .heads) ≡ drop a (s₀ .heads)
+  pub restW : drop a (s .weights) ≡ drop a (s₀ .weights)
+
+-- what a list holds at a place of a row
+read : {X C : Type 0} (f : Link C → X) (A : List (Link C)) (u j : ℕ) (l : List X) (o : Link C) → j < length (row u A) → take (starts A (suc u) - starts A u) (drop (starts A u) l) ≡ map f (row u A) → getD l (starts A u + j) (f o) ≡ f (getD (row u A) j o)
+read f A u j l o h e =
+    sym (getD-drop (starts A u) l j (f o))
+    ∙ (sym (getD-take (starts A (suc u) - starts A u) (drop (starts A u) l) j (f o) (omega arith))
+    ∙ (ap (λ x. getD x j (f o)) e ∙ List·getD-map f (row u A) j o))
+
+-- the place of u's row that was read is an arc
+pub here : {C : Type 0} (m : ℕ) (nb : Lists C) (u at : ℕ) (o : C) → u < m → getD (nb .offsets) u 0 ≤ at → at < getD (nb .offsets) (u + 1) 0 → at < length (nb .weights) → RowArc m nb u (getD (nb .heads) at 0) (getD (nb .weights) at o)
+here m nb u at o h p q l = record { at = at; row = h; from = p; to = q; head = refl; cost = λ x. no-default (nb .weights) at x o l }
+
+module _ {C : Type 0} {m : ℕ} {s₀ nb : Lists C} where
+  module _ {A : List (Link C)} (r : Rows A m s₀ nb) where
+    head-at : (u j : ℕ) (o : C) → u < m → j < length (row u A) → getD (nb .heads) (starts A u + j) 0 ≡ getD (row u A) j (linkOf 0 0 o) .b
+    head-at u j o h k = read (λ (x : Link C). x .b) A u j (nb .heads) (linkOf 0 0 o) k (r .heads u h)
+
+    cost-at : (u j : ℕ) (o : C) → u < m → j < length (row u A) → getD (nb .weights) (starts A u + j) o ≡ getD (row u A) j (linkOf 0 0 o) .cost
+    cost-at u j o h k = read (λ (x : Link C). x .cost) A u j (nb .weights) (linkOf 0 0 o) k (r .weights u h)
+
+    start-next : (u : ℕ) → starts A (u + 1) ≡ starts A u + length (row u A)
+    start-next u = ap (starts A) (add-one u)
+
+    -- a row starts no later than the next
+    pub rising : (u : ℕ) → u < m → getD (nb .offsets) u 0 ≤ getD (nb .offsets) (u + 1) 0
+    rising u h = omega (arith, r .start u (omega arith), r .start (u + 1) (omega arith), start-next u)
+
+    -- the part of a row is the heads of the arcs that leave its index
+    pub row-part : (u : ℕ) → u < m → take (getD (nb .offsets) (u + 1) 0 - getD (nb .offsets) u 0) (drop (getD (nb .offsets) u 0) (nb .heads)) ≡ map (λ (x : Link C). x .b) (row u A)
+    row-part u h =
+        ap (λ (i : ℕ). take (i - getD (nb .offsets) u 0) (drop (getD (nb .offsets) u 0) (nb .heads))) (r .start (u + 1) (omega arith) ∙ ap (starts A) (add-one u))
+        ∙ (ap (λ (i : ℕ). take (starts A (suc u) - i) (drop i (nb .heads))) (r .start u (omega arith)) ∙ r .heads u h)
+
+    -- a row lies in the lists
+    pub rows-inside : Room A m s₀ → (u : ℕ) → u < m → (getD (nb .offsets) (u + 1) 0 ≤ length (nb .heads)) × (getD (nb .offsets) (u + 1) 0 ≤ length (nb .weights))
+    rows-inside w u h =
+        let k = r .start (u + 1) (omega arith) in
+        (omega (arith, k, starts-le A (u + 1), w .heads, r .longH), omega (arith, k, starts-le A (u + 1), w .weights, r .longW))
+
+    past : {X : Type 0} (a : ℕ) (l l′ : List X) → length A ≤ a → drop (starts A m) l ≡ drop (starts A m) l′ → drop a l ≡ drop a l′
+    past a l l′ h e =
+        let k : starts A m + (a - starts A m) ≡ a = omega (arith, starts-le A m) in
+        ap (λ (n : ℕ). drop n l) (sym k) ∙ (sym (drop-drop (a - starts A m) (starts A m) l) ∙ (ap (drop (a - starts A m)) e ∙ (drop-drop (a - starts A m) (starts A m) l′ ∙ ap (λ (n : ℕ). drop n l′) k)))
+
+    pub kept : (a : ℕ) → length A ≤ a → Kept m a s₀ nb
+    kept a h = record {
+      longO = r .longO;
+      longH = r .longH;
+      longW = r .longW;
+      restO = r .restO;
+      restH = past a (nb .heads) (s₀ .heads) h (r .restH);
+      restW = past a (nb .weights) (s₀ .weights) h (r .restW);
+    }
+
+  module _ (d : Bool) (ls : List (Link C)) (r : Rows (arcs d ls) m s₀ nb) where
+    abbrev A : List (Link C)
+    A = arcs d ls
+
+    pub arc-of : (u v : ℕ) (c : C) → RowArc m nb u v c → Arc d ls u v c
+    arc-of u v c a =
+        let lo : starts A u ≤ a .at = subst (λ (x : ℕ). x ≤ a .at) (r .start u (omega (arith, a .row))) (a .from) in
+        let hi : a .at < starts A (u + 1) = subst (λ (x : ℕ). a .at < x) (r .start (u + 1) (omega (arith, a .row))) (a .to) in
+        let j : ℕ = a .at - starts A u in
+        let e : starts A u + j ≡ a .at = omega arith in
+        let k : j < length (row u A) = omega (arith, start-next r u) in
+        arc-row d ls u v c .1 (record {
+          at = j;
+          within = k;
+          head = λ o. ap (λ (x : Link C). x .b) (no-default (row u A) j o (linkOf 0 0 c) k) ∙ (sym (head-at r u j c (a .row) k) ∙ (ap (λ (i : ℕ). getD (nb .heads) i 0) e ∙ a .head));
+          cost = λ o. ap (λ (x : Link C). x .cost) (no-default (row u A) j o (linkOf 0 0 c) k) ∙ (sym (cost-at r u j c (a .row) k) ∙ (ap (λ (i : ℕ). getD (nb .weights) i c) e ∙ a .cost c));
+        })
+
+    pub row-of : (u v : ℕ) (c : C) → u < m → Arc d ls u v c → RowArc m nb u v c
+    row-of u v c h w =
+        let i = arc-row d ls u v c .0 w in
+        record {
+          at = starts A u + i .at;
+          row = h;
+          from = subst (λ (x : ℕ). x ≤ starts A u + i .at) (sym (r .start u (omega arith))) (omega arith);
+          to = subst (λ (x : ℕ). starts A u + i .at < x) (sym (r .start (u + 1) (omega arith))) (omega (arith, start-next r u, i .within));
+          head = head-at r u (i .at) c h (i .within) ∙ i .head (linkOf 0 0 c);
+          cost = λ o. cost-at r u (i .at) o h (i .within) ∙ i .cost (linkOf 0 0 o);
+        }
+
+    -- a list whose arcs lead to indices fits a search
+    pub sound : m ≤ 1024 → Room A m s₀ → ((u v : ℕ) (c : C) → Arc d ls u v c → v < m) → Sound m nb
+    sound h w f = record {
+      bounded = h;
+      starts = omega (arith, w .offsets, r .longO);
+      heads = λ u q. rows-inside r w u q .0;
+      weights = λ u q. rows-inside r w u q .1;
+      inside = λ u v c a. f u v c (arc-of u v c a);
+    }

@@ -1,0 +1,10 @@
+pub mod Sums
+pub mod Counts
+pub mod Places
+pub mod Ended
+pub mod Segments
+pub mod Listing
+pub mod Members
+pub mod Graph
+pub mod One
+pub mod Maps

@@ -1,0 +1,11 @@
+pub mod Laws
+pub mod Joins
+pub mod Arcs
+pub mod Numbers
+pub mod Stores
+pub mod Tables
+pub mod Feed
+pub mod Puts
+pub mod Slices
+pub mod Demand3
+pub mod Small

@@ -1,0 +1,11 @@
+pub mod Pigeon
+pub mod Walk
+pub mod Over
+pub mod Cheap
+pub mod Labels
+pub mod Fall
+pub mod Hist
+pub mod Shift
+pub mod Weigh
+pub mod Front
+pub mod Chain
