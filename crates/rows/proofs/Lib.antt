@@ -6,5 +6,6 @@ pub mod Segments
 pub mod Listing
 pub mod Members
 pub mod Graph
+pub mod Kept
 pub mod One
 pub mod Maps

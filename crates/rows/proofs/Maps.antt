@@ -21,7 +21,9 @@ use Rattle.net.proofs.Same.{arc-below, open-below}
 use Rattle.whole.specs.Zed.{P, N}
 use Rattle.rows.specs.Rows.{Lists, openLinks, arcsEnds, Ready, Room, Rows, Small}
 use Rattle.rows.specs.RowArc.{RowArc, Sound}
+use Rattle.rows.specs.Kept.{KeptLists, Needs}
 use Rattle.rows.proofs.Graph.{Kept, kept, arc-of, row-of, sound}
+use Rattle.rows.proofs.Kept.{needs-room, rows-kept}
 
 -- a places hold the arcs of n links
 arcs-most : {C : Type 0} (d : Bool) (ls : List (Link C)) → length (arcs d ls) ≤ arcRoom d (length ls)
@@ -85,6 +87,10 @@ ready-floats m n d marks xs ys bs os e i =
 pub room-of : {C : Type 0} (A : List (Link C)) (m a : ℕ) (s : Lists C) → length A ≤ a → m < length (s .offsets) → a ≤ length (s .heads) → a ≤ length (s .weights) → Room A m s
 room-of A m a s h p q r = record { offsets = p; heads = omega arith; weights = omega arith }
 
+-- so have those of a map, for its arcs
+pub net-room : {C : Type 0} (g : Net C) {s : Lists C} → Needs (g .bound) (sizeOf g) s → Room (arcs (g .directed) (linksOf g)) (g .bound) s
+net-room g n = needs-room (links-room (g .directed) (g .count) (g .table)) n
+
 -- a map whose costs stand in the list
 module _ {C : Type 0} (g : Net C) (i : insideNet g ≡ true) {s₀ nb : Lists C} (r : Rows (arcs (g .directed) (linksOf g)) (g .bound) s₀ nb) where
   pub arcs-are : (u v : ℕ) (c : C) → RowArc (g .bound) nb u v c ↔ ArcOf g u v c
@@ -93,8 +99,8 @@ module _ {C : Type 0} (g : Net C) (i : insideNet g ≡ true) {s₀ nb : Lists C}
   pub net-sound : g .bound ≤ 1024 → Room (arcs (g .directed) (linksOf g)) (g .bound) s₀ → Sound (g .bound) nb
   net-sound h w = sound (g .directed) (linksOf g) r h w (λ u v c a. arc-below g i u v c a .1)
 
-  pub net-kept : Kept (g .bound) (sizeOf g) s₀ nb
-  net-kept = kept r (sizeOf g) (links-room (g .directed) (g .count) (g .table))
+  pub net-kept : KeptLists (g .bound) (sizeOf g) s₀ nb
+  net-kept = rows-kept (links-room (g .directed) (g .count) (g .table)) r
 
 -- each weight that stands in the list of an integer map is small
 pub row-small : (d : Bool) (ls : List (Link ℤ)) {m : ℕ} {s₀ nb : Lists ℤ} → Rows (arcs d ls) m s₀ nb → Small d ls → (u v : ℕ) (c : ℤ) → RowArc m nb u v c → P c + N c ≤ 2 ^ 31

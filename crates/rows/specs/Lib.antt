@@ -1,3 +1,5 @@
 pub mod Rows
 pub mod Steps
 pub mod RowArc
+pub mod Scratch
+pub mod Kept

@@ -1,0 +1,124 @@
+-- From what the parts gave to the promise: each answer of `bellman_ford`, over plain lists.
+-- Assumes nothing.
+use mathlib.Core.Path.{_≡_, refl, ap, _∙_}
+use mathlib.Core.Bool.{Bool, true, false}
+use mathlib.Core.List.{List}
+use Prim.Native.Nat.{ℕ, _≤_}
+use lib.IntN.{ℤ, pos}
+use lib.ListN.{length}
+use Rattle.clean.specs.Fill.{filled}
+use Rattle.clean.specs.None.{noneI64}
+use Rattle.clean.proofs.Filled.{filled-at, settle}
+use Rattle.net.specs.Net.{Net, has, sizeOf}
+use Rattle.rows.specs.Kept.{Kept, KeptLists}
+use Rattle.rows.proofs.Kept.{kept-none, kept-more, kept-filled, kept-twice, needs-kept, lists-wiped, wiped-twice}
+use Rattle.bellman_ford.specs.Promise.{Scratch, Buffers, wipedAll, clear, blank, Promise, unknown, negative, done}
+use Rattle.bellman_ford.specs.Parts.{Room, Ripe, Solved}
+use Rattle.bellman_ford.proofs.Refusals.{Passed}
+
+-- scratch of which only the part used changed
+pub record KeptScratch (m a : ℕ) (s t : Scratch) : Type 0 where
+  pub rows : KeptLists m a (s .rows) (t .rows)
+  pub queue : Kept m (s .queue) (t .queue)
+  pub queued : Kept m (s .queued) (t .queued)
+  pub lengths : Kept m (s .lengths) (t .lengths)
+
+-- nothing changed
+pub scratch-same : {m a : ℕ} {s : Scratch} → KeptScratch m a s s
+scratch-same = record { rows = record { offsets = kept-none; heads = kept-none; weights = kept-none }; queue = kept-none; queued = kept-none; lengths = kept-none }
+
+module _ {m a : ℕ} {s t : Scratch} where
+  -- it is as long as it was
+  room-kept : Room m a s → KeptScratch m a s t → Room m a t
+  room-kept r k = record { rows = needs-kept (r .rows) (k .rows); queue = rw (k .queue .long) (r .queue); queued = rw (k .queued .long) (r .queued); lengths = rw (k .lengths .long) (r .lengths) }
+
+  -- wiped scratch is such
+  pub scratch-wiped : Room m a s → t ≡ wipedAll m a s → KeptScratch m a s t
+  scratch-wiped r e = record {
+    rows = lists-wiped (pos 0) (r .rows) (ap (λ (x : Scratch). x .rows) e);
+    queue = kept-filled 0 (r .queue) (ap (λ (x : Scratch). x .queue) e);
+    queued = kept-filled 0 (r .queued) (ap (λ (x : Scratch). x .queued) e);
+    lengths = kept-filled 0 (r .lengths) (ap (λ (x : Scratch). x .lengths) e);
+  }
+
+-- wiped, used, and wiped again
+scratch-twice : {m a : ℕ} (s : Scratch) {t u v : Scratch} → t ≡ wipedAll m a s → KeptScratch m a t u → v ≡ wipedAll m a u → v ≡ wipedAll m a s
+scratch-twice {m} {a} s {t} {u} {v} p k q = λ i. record { rows = r i; queue = w i; queued = x i; lengths = l i }
+  where
+    r : v .rows ≡ wipedAll m a s .rows
+    r = wiped-twice (pos 0) (s .rows) (ap (λ (y : Scratch). y .rows) p) (k .rows) (ap (λ (y : Scratch). y .rows) q)
+
+    w : v .queue ≡ filled m 0 (s .queue)
+    w = kept-twice 0 (s .queue) (ap (λ (y : Scratch). y .queue) p) (k .queue) (ap (λ (y : Scratch). y .queue) q)
+
+    x : v .queued ≡ filled m 0 (s .queued)
+    x = kept-twice 0 (s .queued) (ap (λ (y : Scratch). y .queued) p) (k .queued) (ap (λ (y : Scratch). y .queued) q)
+
+    l : v .lengths ≡ filled m 0 (s .lengths)
+    l = kept-twice 0 (s .lengths) (ap (λ (y : Scratch). y .lengths) p) (k .lengths) (ap (λ (y : Scratch). y .lengths) q)
+
+-- a map that is not refused, and the number a that the code computed
+module _ {g : Net ℤ} {b : Buffers} (ok : Passed g b) {a : ℕ} (is : a ≡ sizeOf g) where
+  abbrev m : ℕ
+  m = g .bound
+
+  pub room-first : Room m a (b .scratch)
+  room-first = rw is (ok .room)
+
+  -- the distances blank and the scratch cleared, before the search
+  module _ {b₁ : Buffers} (bl : b₁ .dist ≡ filled m noneI64 (b .dist)) (w : b₁ .scratch ≡ wipedAll m a (b .scratch)) where
+    cleared : b₁ .scratch ≡ clear g b
+    cleared = w ∙ ap (λ (n : ℕ). wipedAll m n (b .scratch)) is
+
+    kept-first : KeptScratch m (sizeOf g) (b .scratch) (b₁ .scratch)
+    kept-first = scratch-wiped (ok .room) cleared
+
+    kept-dist : Kept m (b .dist) (b₁ .dist)
+    kept-dist = kept-filled noneI64 (ok .dist) bl
+
+    pub answer-unknown : {s : ℕ} → has g s ≡ false → Promise g s b b₁ 0
+    answer-unknown f = unknown refl (ok .long) (ok .inside) f (λ i. record { dist = bl i; scratch = cleared i })
+
+    pub ripe : {s : ℕ} → has g s ≡ true → Ripe g s b₁
+    ripe k =
+        let r = room-kept (ok .room) kept-first in
+        record {
+          whole = ok .whole;
+          inside = ok .inside;
+          source = k;
+          rows = r .rows;
+          fresh =
+              record {
+                wide = record { dist = rw (kept-dist .long) (ok .dist); queue = r .queue; queued = r .queued; lengths = r .lengths };
+                dist = λ v h. rw bl (filled-at m noneI64 (pos 0) (b .dist) v h);
+                queued = λ v h. rw w (filled-at m 0 0 (b .scratch .queued) v h);
+                lengths = λ v h. rw w (filled-at m 0 0 (b .scratch .lengths) v h);
+              };
+        }
+
+    -- the map solved
+    module _ {s : ℕ} {t : Bool} {b₂ : Buffers} (k : has g s ≡ true) (v : Solved g s b₁ b₂ t) where
+      kept-second : KeptScratch m (sizeOf g) (b₁ .scratch) (b₂ .scratch)
+      kept-second = record { rows = v .rows; queue = v .rest .queue; queued = v .rest .queued; lengths = v .rest .lengths }
+
+      dist-second : Kept m (b .dist) (b₂ .dist)
+      dist-second = kept-more kept-dist (v .rest .dist)
+
+      pub room-second : Room m a (b₂ .scratch)
+      room-second = rw is (room-kept (room-kept (ok .room) kept-first) kept-second)
+
+      pub dist-room : m ≤ length (b₂ .dist)
+      dist-room = rw (dist-second .long) (ok .dist)
+
+      -- the scratch cleared again
+      module _ {r₃ : Scratch} (w₂ : r₃ ≡ wipedAll m a (b₂ .scratch)) where
+        clear-again : r₃ ≡ clear g b
+        clear-again = scratch-twice (b .scratch) cleared kept-second (w₂ ∙ ap (λ (n : ℕ). wipedAll m n (b₂ .scratch)) is)
+
+        pub answer-negative : {d₃ : List ℤ} → t ≡ true → d₃ ≡ filled m noneI64 (b₂ .dist) → Promise g s b (record { dist = d₃; scratch = r₃ }) 7
+        answer-negative {d₃} y e =
+            let f : d₃ ≡ filled m noneI64 (b .dist) = kept-twice noneI64 (b .dist) bl (v .rest .dist) e in
+            negative refl (ok .long) (ok .inside) k (v .yes y) (λ i. record { dist = f i; scratch = clear-again i })
+
+        pub answer-done : t ≡ false → Promise g s b (record { dist = b₂ .dist; scratch = r₃ }) 0
+        answer-done y = done refl (ok .long) (ok .inside) k (v .no y .0) (settle (pos 0) (ok .dist) (dist-second .long) (v .no y .1) (dist-second .rest)) clear-again

@@ -1,0 +1,9 @@
+pub mod Ring
+pub mod Labels
+pub mod Arc
+pub mod Row
+pub mod Turns
+pub mod Refusals
+pub mod Solves
+pub mod Answers
+pub mod Settles

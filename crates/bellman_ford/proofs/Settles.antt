@@ -1,0 +1,162 @@
+-- The promise of `bellman_ford` settles the answer and each buffer, goes by the arcs alone, and gives each number exactly when its condition holds.
+-- Assumes nothing.
+use mathlib.Core.Path.{_≡_, refl, sym, ap, _∙_, subst}
+use mathlib.Core.Bool.{Bool, true, false}
+use mathlib.Core.List.{List, [], _∷_}
+use mathlib.Core.Logic.{inl, inr, ⊎-elim, _↔_}
+use Prim.Native.Nat.{ℕ, _+_, _*_, _≤_, _<_, _^_}
+use native.Mathlib.Omega.{arith}
+use lib.IntN.{ℤ, pos}
+use lib.Signed.{_<ℤ_}
+use lib.ListN.{length}
+use Rattle.whole.specs.Zed.{_⊕_, P, N, zed, sum}
+use Rattle.whole.proofs.Cases.{clash, other}
+use Rattle.clean.specs.Fill.{Settled}
+use Rattle.clean.specs.None.{noneI64}
+use Rattle.clean.proofs.Filled.{settled-one, settled-over}
+use Rattle.table.specs.Links.{Link, Arc}
+use Rattle.table.proofs.Joins.{joined, joins-of}
+use Rattle.walks.specs.Walk.{Walk, stay, step, Least, NoNeg, NegativeFrom, Entry}
+use Rattle.walks.proofs.Walk.{arc, join, not-both}
+use Rattle.walks.proofs.Cheap.{least-within}
+use Rattle.walks.proofs.Over.{entry-one, entry-over, noneg-over, negative-from-over}
+use Rattle.net.specs.Net.{Net, ArcOf, linksOf, insideNet, has, nodesOf, sizeOf, SameNet}
+use Rattle.net.proofs.Bounds.{Whole, width-small}
+use Rattle.net.proofs.Nodes.{present-in}
+use Rattle.net.proofs.Same.{arc-has, same-inside, same-size}
+use Rattle.rows.specs.Kept.{Kept}
+use Rattle.rows.proofs.Kept.{kept-none, kept-filled}
+use Rattle.bellman_ford.specs.Promise.{Buffers, enough, clear, blank, Promise, short, outside, unknown, negative, done}
+use Rattle.bellman_ford.proofs.Refusals.{enough-passed}
+use Rattle.bellman_ford.proofs.Answers.{KeptScratch, scratch-same, scratch-wiped}
+
+-- ---- two answers that the promise allows are equal
+module _ {g : Net ℤ} {s : ℕ} {b : Buffers} where
+  -- the number and every buffer
+  pub promise-one : {e e′ : Buffers} {no no′ : ℕ} → Promise g s b e no → Promise g s b e′ no′ → (no ≡ no′) × (e ≡ e′)
+  promise-one (short n p q) (short n′ p′ q′) = (n ∙ sym n′, q ∙ sym q′)
+  promise-one (short n p q) (outside n′ p′ i′ q′) = absurd (clash p′ p)
+  promise-one (short n p q) (unknown n′ p′ i′ h′ q′) = absurd (clash p′ p)
+  promise-one (short n p q) (negative n′ p′ i′ h′ w′ q′) = absurd (clash p′ p)
+  promise-one (short n p q) (done n′ p′ i′ h′ w′ d′ q′) = absurd (clash p′ p)
+  promise-one (outside n p i q) (short n′ p′ q′) = absurd (clash p p′)
+  promise-one (outside n p i q) (outside n′ p′ i′ q′) = (n ∙ sym n′, q ∙ sym q′)
+  promise-one (outside n p i q) (unknown n′ p′ i′ h′ q′) = absurd (clash i′ i)
+  promise-one (outside n p i q) (negative n′ p′ i′ h′ w′ q′) = absurd (clash i′ i)
+  promise-one (outside n p i q) (done n′ p′ i′ h′ w′ d′ q′) = absurd (clash i′ i)
+  promise-one (unknown n p i h q) (short n′ p′ q′) = absurd (clash p p′)
+  promise-one (unknown n p i h q) (outside n′ p′ i′ q′) = absurd (clash i i′)
+  promise-one (unknown n p i h q) (unknown n′ p′ i′ h′ q′) = (n ∙ sym n′, q ∙ sym q′)
+  promise-one (unknown n p i h q) (negative n′ p′ i′ h′ w′ q′) = absurd (clash h′ h)
+  promise-one (unknown n p i h q) (done n′ p′ i′ h′ w′ d′ q′) = absurd (clash h′ h)
+  promise-one (negative n p i h w q) (short n′ p′ q′) = absurd (clash p p′)
+  promise-one (negative n p i h w q) (outside n′ p′ i′ q′) = absurd (clash i i′)
+  promise-one (negative n p i h w q) (unknown n′ p′ i′ h′ q′) = absurd (clash h h′)
+  promise-one (negative n p i h w q) (negative n′ p′ i′ h′ w′ q′) = (n ∙ sym n′, q ∙ sym q′)
+  promise-one (negative n p i h w q) (done n′ p′ i′ h′ w′ d′ q′) = absurd (not-both w w′)
+  promise-one (done n p i h w d q) (short n′ p′ q′) = absurd (clash p p′)
+  promise-one (done n p i h w d q) (outside n′ p′ i′ q′) = absurd (clash i i′)
+  promise-one (done n p i h w d q) (unknown n′ p′ i′ h′ q′) = absurd (clash h h′)
+  promise-one (done n p i h w d q) (negative n′ p′ i′ h′ w′ q′) = absurd (not-both w′ w)
+  promise-one (done n p i h w d q) (done n′ p′ i′ h′ w′ d′ q′) =
+      let e = settled-one (pos 0) (λ v k x y. entry-one) d d′ in
+      let r = q ∙ sym q′ in
+      (n ∙ sym n′, λ j. record { dist = e j; scratch = r j })
+
+  -- ---- only the part used of each buffer changes
+  pub promise-kept : {e : Buffers} {no : ℕ} → Promise g s b e no → Kept (g .bound) (b .dist) (e .dist) × KeptScratch (g .bound) (sizeOf g) (b .scratch) (e .scratch)
+  promise-kept (short n p q) = rw q (kept-none, scratch-same)
+  promise-kept (outside n p i q) = rw q (kept-none, scratch-same)
+  promise-kept (unknown n p i h q) = let k = enough-passed g b p i in (kept-filled noneI64 (k .dist) (ap (λ (x : Buffers). x .dist) q), scratch-wiped (k .room) (ap (λ (x : Buffers). x .scratch) q))
+  promise-kept (negative n p i h w q) = let k = enough-passed g b p i in (kept-filled noneI64 (k .dist) (ap (λ (x : Buffers). x .dist) q), scratch-wiped (k .room) (ap (λ (x : Buffers). x .scratch) q))
+  promise-kept (done n p i h w d q) = (record { long = d .long; rest = d .rest }, scratch-wiped (enough-passed g b p i .room) q)
+
+  -- ---- each number, exactly when its condition holds
+  module _ {e : Buffers} {no : ℕ} where
+    pub one-exactly : Promise g s b e no → (no ≡ 1) ↔ (enough g b ≡ false)
+    one-exactly (short n p q) = (λ z. p, λ z. n)
+    one-exactly (outside n p i q) = (λ z. other 2 1 n z (λ y. omega arith), λ z. absurd (clash p z))
+    one-exactly (unknown n p i h q) = (λ z. other 0 1 n z (λ y. omega arith), λ z. absurd (clash p z))
+    one-exactly (negative n p i h w q) = (λ z. other 7 1 n z (λ y. omega arith), λ z. absurd (clash p z))
+    one-exactly (done n p i h w d q) = (λ z. other 0 1 n z (λ y. omega arith), λ z. absurd (clash p z))
+
+    pub two-exactly : Promise g s b e no → (no ≡ 2) ↔ ((enough g b ≡ true) × (insideNet g ≡ false))
+    two-exactly (short n p q) = (λ z. other 1 2 n z (λ y. omega arith), λ z. absurd (clash (z .0) p))
+    two-exactly (outside n p i q) = (λ z. (p, i), λ z. n)
+    two-exactly (unknown n p i h q) = (λ z. other 0 2 n z (λ y. omega arith), λ z. absurd (clash i (z .1)))
+    two-exactly (negative n p i h w q) = (λ z. other 7 2 n z (λ y. omega arith), λ z. absurd (clash i (z .1)))
+    two-exactly (done n p i h w d q) = (λ z. other 0 2 n z (λ y. omega arith), λ z. absurd (clash i (z .1)))
+
+    pub seven-exactly : Promise g s b e no → (no ≡ 7) ↔ ((enough g b ≡ true) × (insideNet g ≡ true) × (has g s ≡ true) × NegativeFrom (ArcOf g) s)
+    seven-exactly (short n p q) = (λ z. other 1 7 n z (λ y. omega arith), λ z. absurd (clash (z .0) p))
+    seven-exactly (outside n p i q) = (λ z. other 2 7 n z (λ y. omega arith), λ z. absurd (clash (z .1) i))
+    seven-exactly (unknown n p i h q) = (λ z. other 0 7 n z (λ y. omega arith), λ z. absurd (clash (z .2) h))
+    seven-exactly (negative n p i h w q) = (λ z. (p, i, h, w), λ z. n)
+    seven-exactly (done n p i h w d q) = (λ z. other 0 7 n z (λ y. omega arith), λ z. absurd (not-both (z .3) w))
+
+-- ---- the promise goes by the arcs: maps that no question can tell apart get the same answers
+module _ {g g′ : Net ℤ} (same : SameNet g g′) where
+  over : (u v : ℕ) (c : ℤ) → ArcOf g u v c → ArcOf g′ u v c
+  over u v c = same .arcs u v c .0
+
+  back : (u v : ℕ) (c : ℤ) → ArcOf g′ u v c → ArcOf g u v c
+  back u v c = same .arcs u v c .1
+
+  same-enough : (b : Buffers) → enough g b ≡ enough g′ b
+  same-enough b = rw (same .whole, same-size same, same .bound)
+
+  same-clear : (b : Buffers) → clear g b ≡ clear g′ b
+  same-clear b = rw (same-size same, same .bound)
+
+  same-blank : (b : Buffers) → blank g b ≡ blank g′ b
+  same-blank b = rw (same-size same, same .bound)
+
+  pub promise-arcs : {s : ℕ} {b e : Buffers} {no : ℕ} → Promise g s b e no → Promise g′ s b e no
+  promise-arcs {s} {b} (short n p q) = short n (sym (same-enough b) ∙ p) q
+  promise-arcs {s} {b} (outside n p i q) = outside n (sym (same-enough b) ∙ p) (sym (same-inside same) ∙ i) q
+  promise-arcs {s} {b} (unknown n p i h q) = unknown n (sym (same-enough b) ∙ p) (sym (same-inside same) ∙ i) (sym (same .has s) ∙ h) (q ∙ same-blank b)
+  promise-arcs {s} {b} (negative n p i h w q) = negative n (sym (same-enough b) ∙ p) (sym (same-inside same) ∙ i) (sym (same .has s) ∙ h) (negative-from-over over w) (q ∙ same-blank b)
+  promise-arcs {s} {b} {e} (done n p i h w d q) =
+      done n (sym (same-enough b) ∙ p) (sym (same-inside same) ∙ i) (sym (same .has s) ∙ h) (noneg-over over back w)
+      (subst (λ (m : ℕ). Settled m (Entry (ArcOf g′) s) (b .dist) (e .dist)) (same .bound) (settled-over (λ v k x y. entry-over over back y) d)) (q ∙ same-clear b)
+
+  -- so two calls on such maps, with the same buffers and the same source, answer the same and leave the same
+  pub same-answers : {s : ℕ} {b e e′ : Buffers} {no no′ : ℕ} → Promise g s b e no → Promise g′ s b e′ no′ → (no ≡ no′) × (e ≡ e′)
+  same-answers p q = promise-one (promise-arcs p) q
+
+-- ---- none is never a total, and stands at each absent index
+module _ (g : Net ℤ) (s v : ℕ) (d : ℤ) (inside : insideNet g ≡ true) (source : has g s ≡ true) where
+  -- an absent index has no walk to it
+  pub absent-none : has g v ≡ false → Entry (ArcOf g) s v d → d ≡ noneI64
+  absent-none f (inr p) = p .0
+  absent-none f (inl l) = absurd (clash (end source (l .walk)) f)
+    where
+      end : {u w : ℕ} {t : ℤ} → has g u ≡ true → Walk (ArcOf g) u w t → has g w ≡ true
+      end k (stay e) = k
+      end k (step {u} {v} {c} a w e) = end (arc-has g inside u v c a .1) w
+
+  -- the costs are those of 32 bits, and a least total has fewer than 1,024 arcs
+  pub total-not-none : Whole g → ((x y : ℕ) (c : ℤ) → ArcOf g x y c → P c + N c ≤ 2 ^ 31) → NoNeg (ArcOf g) s → Least (ArcOf g) s v d → noneI64 <ℤ d
+  total-not-none whole small none l =
+      let w = least-within (nodesOf g) (2 ^ 31) (λ x y c a. present-in g y (arc-has g inside x y c a .1)) (present-in g s source) small none l in
+      let n : ℕ = w .0 in
+      let a : N d ≤ n * 2 ^ 31 + P d = w .2 .1 in
+      let few : n < length (nodesOf g) = w .1 in
+      omega (arith, zed, width-small whole)
+
+-- ---- undirected: a link below zero in reach is a closed walk below zero, there and back
+turned-arc : (d : Bool) → d ≡ false → (ls : List (Link ℤ)) (u v : ℕ) (c : ℤ) → Arc d ls u v c → Arc d ls v u c
+turned-arc d e [] u v c a = a
+turned-arc d e (l ∷ ls) u v c (inl a) = inl (joins-of d v u l (⊎-elim (λ p. inr (e, p .0, p .1)) (λ p. inl (p .1, p .2)) (joined d u v l (a .0))), a .1)
+turned-arc d e (l ∷ ls) u v c (inr a) = inr (turned-arc d e ls u v c a)
+
+pub undirected-negative : (g : Net ℤ) (s u v : ℕ) (t c : ℤ) → g .directed ≡ false → Walk (ArcOf g) s u t → ArcOf g u v c → c <ℤ pos 0 → NegativeFrom (ArcOf g) s
+undirected-negative g s u v t c e w a h = record { x = u; a = t; t = c ⊕ c; reach = w; loop = join (arc a) (arc (turned-arc (g .directed) e (linksOf g) u v c a)) refl; below = omega (arith, zed, sum c c) }
+
+-- so the answer is 7
+pub undirected-seven : {g : Net ℤ} {s u no : ℕ} {t : ℤ} {b e : Buffers} (v : ℕ) (c : ℤ) → Promise g s b e no → enough g b ≡ true → insideNet g ≡ true → has g s ≡ true → g .directed ≡ false → Walk (ArcOf g) s u t → ArcOf g u v c → c <ℤ pos 0 → no ≡ 7
+undirected-seven {g} {s} {u} {no} {t} v c p e i h f w a l = seven-exactly p .1 (e, i, h, undirected-negative g s u v t c f w a l)
+
+-- ---- the scratch is within what is allowed
+pub scratch-budget : (m a : ℕ) → (m + 1) + a + a + m + m + m ≤ 8 * (m + 1) + 4 * a
+scratch-budget m a = omega arith

@@ -1,0 +1,120 @@
+-- `bellman_ford::bellman_ford` meets its contract: each answer is a law of proofs/Answers.antt, at what the calls gave.
+-- Assumes nothing.
+use Rattle.bellman_ford.proofs.bellman_ford.Statement.{statement}
+use Rattle.bellman_ford.proofs.bellman_ford.Tie as tie
+use mathlib.Core.Path.{sym, _∙_}
+use borrow.Author.Needs.{needs}
+use borrow.Author.Tests.{not-true, not-false}
+use Rattle.net.proofs.Bounds.{whole-ints}
+use Rattle.bellman_ford.proofs.Refusals.{refused, passed}
+use Rattle.bellman_ford.proofs.Answers.{room-first, answer-unknown, ripe, room-second, dist-room, answer-negative, answer-done}
+use Rattle.bellman_ford.proofs.Settles.{promise-kept}
+
+returns : tie.Need-returns
+returns c = refused _ _ _ _ (c .before .refusal .ensures) (c .if1 .taken)
+
+arc-room-requires : tie.Need-arc-room-requires
+arc-room-requires c κs =
+    let v = c .before .before .before .before .before .before .before .before .before .before .before .before .before .before .before .before .before .args in
+    whole-ints (v .map .bound) (v .map .count) (v .map .directed) (v .marks .now) (v .from .now) (v .to .now) (v .costs .now) (passed _ _ (sym (c .before .refusal .ensures) ∙ c .if1 .left) .whole) .links
+
+blank-i64-requires : tie.Need-blank-i64-requires
+blank-i64-requires c κs = passed _ _ (sym (c .before .before .before .refusal .ensures) ∙ c .before .before .if1 .left) .dist
+
+wipe-requires : tie.Need-wipe-requires
+wipe-requires c κs = let e = c .before .before .before .before .before .before .before .before .before .before in room-first (passed _ _ (sym (e .before .refusal .ensures) ∙ e .if1 .left)) (c .before .before .before .before .before .before .before .before .before .arc-room .ensures)
+
+has-index-requires : tie.Need-has-index-requires
+has-index-requires c κs = let e = c .before .before .before .before .before .before .before .before .before .before .before .before .before .before .before .before .before .before .before .before .before .before in passed _ _ (sym (e .before .refusal .ensures) ∙ e .if1 .left) .marked
+
+returns-2 : tie.Need-returns-2
+returns-2 c =
+    let w = c .before .before .before .before .before .before .before .before .before .before .before .before .before in
+    let e = w .before .before .before .before .before .before .before .before .before .before .before in
+    answer-unknown (passed _ _ (sym (e .before .refusal .ensures) ∙ e .if1 .left)) (w .before .before .before .before .before .before .before .before .before .before .arc-room .ensures) (w .before .before .before .before .before .before .before .before .blank-i64 .ensures) (w .wipe .ensures) (sym (c .before .has-index .ensures) ∙ not-true _ (c .if2 .taken))
+
+solve-requires : tie.Need-solve-requires
+solve-requires c κs =
+    let h = c .before .before .before .before .before .before .before in
+    let w = h .before .before .before .before .before .before .before .before .before .before .before .before .before in
+    let e = w .before .before .before .before .before .before .before .before .before .before .before in
+    ripe (passed _ _ (sym (e .before .refusal .ensures) ∙ e .if1 .left)) (w .before .before .before .before .before .before .before .before .before .before .arc-room .ensures) (w .before .before .before .before .before .before .before .before .blank-i64 .ensures) (w .wipe .ensures) (sym (h .before .has-index .ensures) ∙ not-false _ (h .if2 .left))
+
+wipe-requires-2 : tie.Need-wipe-requires-2
+wipe-requires-2 c κs =
+    let v = c .before .before .before .before .before .before .before .before .before .before .before .before .before .before .before .before .before .before in
+    let h = v .before .before .before .before .before .before .before .before in
+    let w = h .before .before .before .before .before .before .before .before .before .before .before .before .before in
+    let e = w .before .before .before .before .before .before .before .before .before .before .before in
+    room-second (passed _ _ (sym (e .before .refusal .ensures) ∙ e .if1 .left)) (w .before .before .before .before .before .before .before .before .before .before .arc-room .ensures) (w .before .before .before .before .before .before .before .before .blank-i64 .ensures) (w .wipe .ensures) (sym (h .before .has-index .ensures) ∙ not-false _ (h .if2 .left)) (v .solve .ensures)
+
+blank-i64-requires-2 : tie.Need-blank-i64-requires-2
+blank-i64-requires-2 c κs =
+    let v = c .before .before .before .before .before .before .before .before .before .before .before .before .before .before .before .before .before .before .before .before .before .before .before .before .before .before .before .before .before .before .before .before in
+    let h = v .before .before .before .before .before .before .before .before in
+    let w = h .before .before .before .before .before .before .before .before .before .before .before .before .before in
+    let e = w .before .before .before .before .before .before .before .before .before .before .before in
+    dist-room (passed _ _ (sym (e .before .refusal .ensures) ∙ e .if1 .left)) (w .before .before .before .before .before .before .before .before .before .before .arc-room .ensures) (w .before .before .before .before .before .before .before .before .blank-i64 .ensures) (w .wipe .ensures) (sym (h .before .has-index .ensures) ∙ not-false _ (h .if2 .left)) (v .solve .ensures)
+
+returns-3 : tie.Need-returns-3
+returns-3 c =
+    let v = c .before .before .before .before .before .before .before .before .before .before .before .before .before .before .before .before .before .before .before .before .before .before .before .before .before .before .before .before .before .before .before .before .before .before in
+    let h = v .before .before .before .before .before .before .before .before in
+    let w = h .before .before .before .before .before .before .before .before .before .before .before .before .before in
+    let e = w .before .before .before .before .before .before .before .before .before .before .before in
+    answer-negative (passed _ _ (sym (e .before .refusal .ensures) ∙ e .if1 .left)) (w .before .before .before .before .before .before .before .before .before .before .arc-room .ensures) (w .before .before .before .before .before .before .before .before .blank-i64 .ensures) (w .wipe .ensures) (sym (h .before .has-index .ensures) ∙ not-false _ (h .if2 .left)) (v .solve .ensures)
+    (c .before .before .before .before .before .before .before .before .before .before .before .before .before .before .before .wipe2 .ensures) (c .before .before .before .if3 .taken) (c .before .blank-i642 .ensures)
+
+returns-4 : tie.Need-returns-4
+returns-4 c =
+    let v = c .before .before .before .before .before .before .before .before .before .before .before .before .before .before .before .before .before .before .before .before .before .before .before .before .before .before .before .before .before .before .before in
+    let h = v .before .before .before .before .before .before .before .before in
+    let w = h .before .before .before .before .before .before .before .before .before .before .before .before .before in
+    let e = w .before .before .before .before .before .before .before .before .before .before .before in
+    answer-done (passed _ _ (sym (e .before .refusal .ensures) ∙ e .if1 .left)) (w .before .before .before .before .before .before .before .before .before .before .arc-room .ensures) (w .before .before .before .before .before .before .before .before .blank-i64 .ensures) (w .wipe .ensures) (sym (h .before .has-index .ensures) ∙ not-false _ (h .if2 .left)) (v .solve .ensures)
+    (c .before .before .before .before .before .before .before .before .before .before .before .before .wipe2 .ensures) (c .if3 .left)
+
+pub bellman-ford-spec : {M : Type 1} → statement M
+bellman-ford-spec =
+    tie.close
+    (tie.spec
+    (λ c κs. search needs)
+    (λ c. search needs)
+    (λ c. search needs)
+    (λ c. search needs)
+    (λ c. search needs)
+    (λ c. search needs)
+    (λ c. search needs)
+    (λ c. search needs)
+    returns
+    arc-room-requires
+    blank-i64-requires
+    wipe-requires
+    has-index-requires
+    (λ c. promise-kept (returns-2 c) .0 .long)
+    (λ c. promise-kept (returns-2 c) .1 .rows .offsets .long)
+    (λ c. promise-kept (returns-2 c) .1 .rows .heads .long)
+    (λ c. promise-kept (returns-2 c) .1 .rows .weights .long)
+    (λ c. promise-kept (returns-2 c) .1 .queue .long)
+    (λ c. promise-kept (returns-2 c) .1 .queued .long)
+    (λ c. promise-kept (returns-2 c) .1 .lengths .long)
+    returns-2
+    solve-requires
+    wipe-requires-2
+    blank-i64-requires-2
+    (λ c. promise-kept (returns-3 c) .0 .long)
+    (λ c. promise-kept (returns-3 c) .1 .rows .offsets .long)
+    (λ c. promise-kept (returns-3 c) .1 .rows .heads .long)
+    (λ c. promise-kept (returns-3 c) .1 .rows .weights .long)
+    (λ c. promise-kept (returns-3 c) .1 .queue .long)
+    (λ c. promise-kept (returns-3 c) .1 .queued .long)
+    (λ c. promise-kept (returns-3 c) .1 .lengths .long)
+    returns-3
+    (λ c. promise-kept (returns-4 c) .0 .long)
+    (λ c. promise-kept (returns-4 c) .1 .rows .offsets .long)
+    (λ c. promise-kept (returns-4 c) .1 .rows .heads .long)
+    (λ c. promise-kept (returns-4 c) .1 .rows .weights .long)
+    (λ c. promise-kept (returns-4 c) .1 .queue .long)
+    (λ c. promise-kept (returns-4 c) .1 .queued .long)
+    (λ c. promise-kept (returns-4 c) .1 .lengths .long)
+    returns-4)

@@ -1,0 +1,107 @@
+-- `bellman_ford::search` meets its contract.
+-- Assumes nothing.
+use Rattle.bellman_ford.proofs.search.Statement.{statement}
+use Rattle.bellman_ford.proofs.search.Tie as tie
+use Rattle.bellman_ford.proofs.search.Reads as reads
+use Rattle.bellman_ford.proofs.search.Lts as lts
+use Rattle.bellman_ford.proofs.push.Reads as push-reads
+use Rattle.bellman_ford.proofs.relax_row.Reads as relax-row-reads
+use Rattle.bellman_ford.proofs.slot.Reads as slot-reads
+use Rattle.bellman_ford.proofs.store.Reads as store-reads
+use Prim.Native.Nat.{_<_}
+use native.Mathlib.Omega.{arith}
+use borrow.Author.Needs.{needs}
+use lib.ListN.{length, getD}
+use Rattle.rows.specs.Rows.{listsOf}
+use Rattle.bellman_ford.specs.Search.{memoryOf, toDo}
+use Rattle.bellman_ford.proofs.Turns.{Turning, turn-first, turn-below, turn-open, turn-next, turn-falls, turn-stops, turn-ends}
+
+abbrev Inv-loop : tie.InvT-loop
+Inv-loop m p source offsets heads weights dist₀ queue₀ queued₀ lengths₀ size₀ head₀ dist queue queued lengths size head = Turning m p source (listsOf offsets heads weights) head size (memoryOf dist₀ queue₀ queued₀ lengths₀) (memoryOf dist queue queued lengths)
+
+abbrev μ-loop : tie.MeasureT-loop
+μ-loop m p source offsets heads weights dist₀ queue₀ queued₀ lengths₀ size₀ head₀ dist queue queued lengths size head = toDo (memoryOf dist queue queued lengths) size
+
+-- the first place of the ring, and what waits there
+module _ (c : lts.In-loop (store-reads.Asked, store-reads.Learnt, push-reads.Asked, push-reads.Learnt, slot-reads.Asked, slot-reads.Learnt, relax-row-reads.Asked, relax-row-reads.Learnt) reads.Pre reads.Post Inv-loop μ-loop) where
+  in-queue : c .before .loop .head < length (c .before .loop .queue)
+  in-queue = let r = c .before .loop .inv .calm .held .ring in omega (arith, r .first, r .roomQ)
+
+  in-queued : getD (c .before .loop .queue) (c .before .loop .head) 0 < length (c .before .loop .queued)
+  in-queued = omega (arith, turn-below (c .before .loop .inv) (c .loop-test .taken), c .before .loop .inv .calm .held .ring .roomD)
+
+store-requires : tie.Need-store-requires Inv-loop μ-loop
+store-requires c κs = omega (arith, c .before .before .before .before .before .before .pre .0 .below, c .before .before .before .before .before .before .pre .1 .wide .dist)
+
+push-requires : tie.Need-push-requires Inv-loop μ-loop
+push-requires c κs =
+    let f = c .before .before .before .before .before .before .before .before .before .before .pre .0 in
+    let w = c .before .before .before .before .before .before .before .before .before .before .pre .1 .wide in
+    (f .sound .bounded, omega (arith, f .below), omega arith, f .below, w .queue, w .queued)
+
+loop-holds : tie.Need-loop-holds Inv-loop μ-loop
+loop-holds c = turn-first (c .before .before .before .before .before .before .before .before .before .before .before .before .before .before .before .pre .0) (c .before .before .before .before .before .before .before .before .before .before .before .before .before .before .before .pre .1) (c .before .before .before .before .before .before .before .before .store .ensures) (c .before .before .before .before .push .ensures) .0
+
+mul-u : tie.Need-mul-u Inv-loop μ-loop
+mul-u c = let h = in-queue c in search needs
+
+slice-read-u : tie.Need-slice-read-u Inv-loop μ-loop
+slice-read-u c = in-queue (c .before)
+
+mul-queued : tie.Need-mul-queued Inv-loop μ-loop
+mul-queued c = let h = in-queued (c .before) in search needs
+
+slice-write-queued : tie.Need-slice-write-queued Inv-loop μ-loop
+slice-write-queued c = in-queued (c .before)
+
+slot-requires : tie.Need-slot-requires Inv-loop μ-loop
+slot-requires c κs =
+    let r = c .before .before .loop .inv .calm .held .ring in
+    (c .before .before .before .before .before .before .before .before .before .before .before .before .before .before .before .before .before .before .pre .0 .sound .bounded, r .first, omega (arith, r .first))
+
+relax-row-requires : tie.Need-relax-row-requires Inv-loop μ-loop
+relax-row-requires c κs = (c .before .before .before .before .before .before .before .before .before .before .before .before .before .before .before .before .before .before .before .before .before .before .before .pre .0, turn-open (c .before .before .before .before .before .before .before .loop .inv) (c .before .before .before .before .before .before .loop-test .taken) (c .before .before .before .before .slot .ensures))
+
+returns : tie.Need-returns Inv-loop μ-loop
+returns c = turn-stops (c .before .before .before .before .before .before .before .before .before .before .before .before .before .before .before .before .loop .inv) (c .before .before .before .before .before .before .before .before .before .before .before .before .before .before .before .loop-test .taken) (c .before .before .before .before .before .before .before .before .relax-row .ensures) (turn-first (c .before .before .before .before .before .before .before .before .before .before .before .before .before .before .before .before .before .before .before .before .before .before .before .before .before .before .before .before .before .before .before .before .pre .0) (c .before .before .before .before .before .before .before .before .before .before .before .before .before .before .before .before .before .before .before .before .before .before .before .before .before .before .before .before .before .before .before .before .pre .1) (c .before .before .before .before .before .before .before .before .before .before .before .before .before .before .before .before .before .before .before .before .before .before .before .before .before .store .ensures) (c .before .before .before .before .before .before .before .before .before .before .before .before .before .before .before .before .before .before .before .before .before .push .ensures) .1) (c .if1 .taken)
+
+same-length-3 : tie.Need-same-length-3 Inv-loop μ-loop
+same-length-3 c = turn-stops (c .before .before .before .before .before .before .before .before .before .before .before .before .before .before .before .before .loop .inv) (c .before .before .before .before .before .before .before .before .before .before .before .before .before .before .before .loop-test .taken) (c .before .before .before .before .before .before .before .before .relax-row .ensures) (turn-first (c .before .before .before .before .before .before .before .before .before .before .before .before .before .before .before .before .before .before .before .before .before .before .before .before .before .before .before .before .before .before .before .before .pre .0) (c .before .before .before .before .before .before .before .before .before .before .before .before .before .before .before .before .before .before .before .before .before .before .before .before .before .before .before .before .before .before .before .before .pre .1) (c .before .before .before .before .before .before .before .before .before .before .before .before .before .before .before .before .before .before .before .before .before .before .before .before .before .store .ensures) (c .before .before .before .before .before .before .before .before .before .before .before .before .before .before .before .before .before .before .before .before .before .push .ensures) .1) (c .if1 .taken) .rest .queued .long
+
+loop-less : tie.Need-loop-less Inv-loop μ-loop
+loop-less c = turn-falls (c .before .before .before .before .before .before .before .before .before .before .before .before .before .before .before .before .loop .inv) (c .before .before .before .before .before .before .before .before .before .before .before .before .before .before .before .loop-test .taken) (c .before .before .before .before .before .before .before .before .relax-row .ensures) (c .if1 .left)
+
+loop-again : tie.Need-loop-again Inv-loop μ-loop
+loop-again c = turn-next (c .before .before .before .before .before .before .before .before .before .before .before .before .before .before .before .before .loop .inv) (c .before .before .before .before .before .before .before .before .before .before .before .before .before .before .before .loop-test .taken) (c .before .before .before .before .before .before .before .before .relax-row .ensures) (c .if1 .left)
+
+returns-2 : tie.Need-returns-2 Inv-loop μ-loop
+returns-2 c = turn-ends (c .before .loop .inv) (c .loop-test .left) (turn-first (c .before .before .before .before .before .before .before .before .before .before .before .before .before .before .before .before .before .pre .0) (c .before .before .before .before .before .before .before .before .before .before .before .before .before .before .before .before .before .pre .1) (c .before .before .before .before .before .before .before .before .before .before .store .ensures) (c .before .before .before .before .before .before .push .ensures) .1)
+
+pub search-spec : {M : Type 1} → statement M
+search-spec =
+    tie.close
+    (tie.spec
+    Inv-loop
+    μ-loop
+    store-requires
+    push-requires
+    loop-holds
+    mul-u
+    slice-read-u
+    mul-queued
+    slice-write-queued
+    slot-requires
+    (λ c. search needs)
+    relax-row-requires
+    (λ c. search needs)
+    (λ c. search needs)
+    same-length-3
+    (λ c. search needs)
+    returns
+    loop-less
+    loop-again
+    (λ c. search needs)
+    (λ c. search needs)
+    (λ c. search needs)
+    (λ c. search needs)
+    returns-2)

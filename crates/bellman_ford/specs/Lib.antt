@@ -1,0 +1,3 @@
+pub mod Promise
+pub mod Search
+pub mod Parts

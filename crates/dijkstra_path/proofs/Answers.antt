@@ -1,0 +1,143 @@
+-- From what the parts gave to the promise, over plain lists.
+-- Assumes nothing.
+use mathlib.Core.Path.{_≡_, refl, sym, ap, _∙_}
+use mathlib.Core.Bool.{Bool, true}
+use mathlib.Core.List.{List}
+use mathlib.Core.Logic.{_⊎_, inl, inr}
+use mathlib.Core.Option.{none}
+use Prim.Native.Nat.{ℕ, _+_, _≤_, _<_}
+use native.Mathlib.Omega.{arith}
+use lib.Ieee.{Float, binary64, ofBits}
+use lib.ListN.{length}
+use Rattle.clean.specs.Fill.{filled}
+use Rattle.clean.specs.None.{noneF64, noneU32}
+use Rattle.clean.proofs.Filled.{filled-same}
+use Rattle.float.specs.Dist.{zero64}
+use Rattle.float.specs.Cutoff.{past}
+use Rattle.float.specs.declared.Cutoff.{Cutoff}
+use Rattle.table.specs.Links.{arcs}
+use Rattle.table.specs.Lent.{FloatCost}
+use Rattle.net.specs.Net.{Net, netOf64, OpenArcOf, insideNet, arcRoom}
+use Rattle.net.proofs.Nodes.{has-below}
+use Rattle.net.proofs.Bounds.{Whole, whole-floats}
+use Rattle.rows.specs.Rows.{Lists, listsOf, arcsOpen, Ready, Room, Rows}
+use Rattle.rows.specs.RowArc.{RowArc, Sound}
+use Rattle.rows.proofs.Maps.{open-room, open-are, open-sound, open-kept, ready-floats, room-of}
+use Rattle.pending.specs.Setting.{End}
+use Rattle.pending.specs.OnePlace.{Cell, Ends, empty, found, wrong, more}
+use Rattle.pending.specs.Floats.{search64}
+use Rattle.pending.proofs.One.{ends-map}
+use Rattle.turns.specs.Memory.{Memory, memoryOf}
+use Rattle.dijkstra_path.specs.Promise.{Buffers, buffersOf, left, EndsIn, Promise, bad, done}
+use Rattle.dijkstra_path.specs.Parts.{refusalNo, Roomy, Ran}
+use Rattle.dijkstra_path.proofs.Refusals.{passed, whole-of, long-of}
+
+-- a search ends with 0 or 6
+pub number-is : {K C : Type 0} {S : Rattle.pending.specs.Setting.Setting K C} {Arc : ℕ → ℕ → C → Type 0} {c : ℕ → Cell K} {n : ℕ} {e : End K} → Ends S Arc c n e → (e .number ≡ 0) ⊎ (e .number ≡ 6)
+number-is (empty f) = inl refl
+number-is (found u d p t g) = inl refl
+number-is (wrong u d p t g v c a b) = inr refl
+number-is (more w r) = number-is r
+
+-- the lists of a search among the buffers
+abbrev pub memory : Buffers → Memory Float
+memory b = memoryOf (b .dist) (b .preds) (b .heap) (b .places) (b .keys)
+
+abbrev pub lists : Buffers → Lists ℕ
+lists b = listsOf (b .offsets) (b .heads) (b .weights)
+
+module _ (m n : ℕ) (d : Bool) (marks xs ys bs os : List ℕ) (s : ℕ) (b : Buffers) (ok : refusalNo (netOf64 m n d marks xs ys bs os) s b ≡ 0) where
+  abbrev g : Net FloatCost
+  g = netOf64 m n d marks xs ys bs os
+
+  limits : Whole (netOf64 m n d marks xs ys bs os)
+  limits = whole-floats m n d marks xs ys bs os (whole-of (netOf64 m n d marks xs ys bs os) s b ok)
+
+  inside : insideNet (netOf64 m n d marks xs ys bs os) ≡ true
+  inside = passed (netOf64 m n d marks xs ys bs os) s b ok .1
+
+  -- what the parts ask
+  pub few-links : n ≤ 8192
+  few-links = limits .links
+
+  pub ready : Ready m n xs ys × (n ≤ length bs) × (n ≤ length os)
+  ready = ready-floats m n d marks xs ys bs os (whole-of (netOf64 m n d marks xs ys bs os) s b ok) inside
+
+  pub room : Room (arcsOpen d n xs ys bs os) m (lists b)
+  room = let l = long-of (netOf64 m n d marks xs ys bs os) s b ok in room-of (arcsOpen d n xs ys bs os) m (arcRoom d n) (lists b) (open-room d n (netOf64 m n d marks xs ys bs os .table)) (omega (arith, l .offsets)) (l .heads) (l .weights)
+
+  pub source-below : s < m
+  source-below = has-below (netOf64 m n d marks xs ys bs os) s (passed (netOf64 m n d marks xs ys bs os) s b ok .2)
+
+  pub roomy : Roomy m (memory b)
+  roomy = long-of (netOf64 m n d marks xs ys bs os) s b ok .lists
+
+  module _ {nb : Lists ℕ} (r : Rows (arcsOpen d n xs ys bs os) m (lists b) nb) where
+    pub list-sound : Sound m nb
+    list-sound = open-sound (netOf64 m n d marks xs ys bs os) inside r (limits .indices) room
+
+    module _ {k : Cutoff} {M : Memory Float} {no : ℕ} (v : Ran k m s nb (memory b) M no) {a : ℕ} (is : a ≡ arcRoom d n) where
+      -- the scratch may be wiped, and the answers blanked
+      pub record Wipes : Type 0 where
+        pub bounded : m ≤ 1024
+        pub offsets : m + 1 ≤ length (nb .offsets)
+        pub heads : a ≤ length (nb .heads)
+        pub weights : a ≤ length (nb .weights)
+        pub lists : Roomy m M
+
+      pub wipes : Wipes
+      wipes =
+          let l = long-of (netOf64 m n d marks xs ys bs os) s b ok in
+          let q = open-kept (netOf64 m n d marks xs ys bs os) inside r in
+          record {
+            bounded = limits .indices;
+            offsets = omega (arith, l .offsets, q .longO);
+            heads = omega (arith, l .heads, q .longH, is);
+            weights = omega (arith, l .weights, q .longW, is);
+            lists = record {
+              dist = omega (arith, l .lists .dist, v .restD .long);
+              preds = omega (arith, l .lists .preds, v .restP .long);
+              heap = omega (arith, l .lists .heap, v .restH .long);
+              places = omega (arith, l .lists .places, v .restB .long);
+              keys = omega (arith, l .lists .keys, v .restK .long);
+            };
+          }
+
+      -- the end over the open arcs of the map
+      ends-in : EndsIn (netOf64 m n d marks xs ys bs os) s k (v .end)
+      ends-in = record {
+        run = ends-map (search64 (past k) none s) (RowArc m nb) (OpenArcOf (netOf64 m n d marks xs ys bs os)) (λ u w x. open-are (netOf64 m n d marks xs ys bs os) inside r u w x .0)
+            (λ u w x. open-are (netOf64 m n d marks xs ys bs os) inside r u w x .1) (v .run);
+      }
+
+      -- what the wiping leaves
+      module _ {o h w q i : List ℕ} {y : List Float} (o-is : o ≡ filled (m + 1) 0 (nb .offsets)) (h-is : h ≡ filled a 0 (nb .heads)) (w-is : w ≡ filled a 0 (nb .weights))
+          (q-is : q ≡ filled m 0 (M .heap)) (i-is : i ≡ filled m 0 (M .places)) (y-is : y ≡ filled m (ofBits binary64 0) (M .keys)) where
+        wiped : (x : List Float) (p : List ℕ) → buffersOf x p o h w q i y ≡ left (netOf64 m n d marks xs ys bs os) b x p
+        unfolding zero64
+        wiped x p =
+            let t = open-kept (netOf64 m n d marks xs ys bs os) inside r in
+            let eo = o-is ∙ filled-same (m + 1) 0 (nb .offsets) (b .offsets) (t .restO) in
+            let eh = h-is ∙ ap (λ (j : ℕ). filled j 0 (nb .heads)) is ∙ filled-same (arcRoom d n) 0 (nb .heads) (b .heads) (t .restH) in
+            let ew = w-is ∙ ap (λ (j : ℕ). filled j 0 (nb .weights)) is ∙ filled-same (arcRoom d n) 0 (nb .weights) (b .weights) (t .restW) in
+            let eq = q-is ∙ filled-same m 0 (M .heap) (b .heap) (v .restH .rest) in
+            let ei = i-is ∙ filled-same m 0 (M .places) (b .places) (v .restB .rest) in
+            let ey = y-is ∙ filled-same m (ofBits binary64 0) (M .keys) (b .keys) (v .restK .rest) in
+            λ j. buffersOf x p (eo j) (eh j) (ew j) (eq j) (ei j) (ey j)
+
+        -- done
+        pub answer-done : no ≡ 0 → Promise (netOf64 m n d marks xs ys bs os) s k b (buffersOf (M .dist) (M .preds) o h w q i y) 0
+        answer-done e =
+            let x = passed (netOf64 m n d marks xs ys bs os) s b ok in
+            done refl (x .0) (x .1) (x .2) (v .end) ends-in (sym (v .is) ∙ e) (record { dist = v .dist e; preds = v .preds e }) (wiped (M .dist) (M .preds))
+
+        -- a bad cost
+        pub answer-bad : (no ≡ 0 → ⊥) → {x : List Float} {p : List ℕ} → x ≡ filled m noneF64 (M .dist) → p ≡ filled m noneU32 (M .preds) → Promise (netOf64 m n d marks xs ys bs os) s k b (buffersOf x p o h w q i y) no
+        answer-bad f {x} {p} ex ep = go (number-is (v .run))
+          where
+            go : (v .end .number ≡ 0) ⊎ (v .end .number ≡ 6) → Promise (netOf64 m n d marks xs ys bs os) s k b (buffersOf x p o h w q i y) no
+            go (inl z) = absurd (f (v .is ∙ z))
+            go (inr z) =
+                let t = passed (netOf64 m n d marks xs ys bs os) s b ok in
+                bad (v .is ∙ z) (t .0) (t .1) (t .2) (v .end) ends-in z
+                (wiped x p ∙ (λ j. left (netOf64 m n d marks xs ys bs os) b ((ex ∙ filled-same m noneF64 (M .dist) (b .dist) (v .restD .rest)) j) ((ep ∙ filled-same m noneU32 (M .preds) (b .preds) (v .restP .rest)) j)))

@@ -1,0 +1,150 @@
+-- The promise settles the answer and each buffer, goes by the open arcs alone, and by what the cutoff cuts.
+-- Assumes nothing.
+use mathlib.Core.Path.{_≡_, sym, ap, _∙_, subst}
+use mathlib.Core.Bool.{Bool, true, false}
+use mathlib.Core.List.{List}
+use mathlib.Core.Logic.{_↔_}
+use mathlib.Core.Option.{none}
+use Prim.Native.Nat.{ℕ, _+_, _*_, _≤_}
+use native.Mathlib.Omega.{arith}
+use lib.Ieee.{Float, nan, inf}
+use Rattle.whole.proofs.Cases.{clash, other}
+use Rattle.clean.specs.None.{noneF64, noneU32}
+use Rattle.clean.proofs.Filled.{settled-one}
+use Rattle.float.specs.Cutoff.{past}
+use Rattle.float.specs.declared.Cutoff.{Cutoff}
+use Rattle.float.specs.declared.Cutoff.the-variants.{None, At}
+use Rattle.float.proofs.Past.{past-none, past-nan, past-infinity}
+use Rattle.table.specs.Lent.{FloatCost}
+use Rattle.net.specs.Net.{Net, OpenArcOf, insideNet, has, SameNet}
+use Rattle.net.proofs.Same.{same-inside, same-size, same-open}
+use Rattle.pending.specs.Setting.{End}
+use Rattle.pending.specs.OnePlace.{begin, Ends}
+use Rattle.pending.specs.Floats.{search64}
+use Rattle.pending.proofs.Floats.{laws64}
+use Rattle.pending.proofs.One.{begin-ok, ends-one, ends-map}
+use Rattle.dijkstra_path.specs.Promise.{Buffers, enough, left, blank, EndsIn, Answers, Promise, short, outside, absent, bad, done}
+
+-- ---- two answers that the promise allows are equal
+-- the pending bag ends in one way
+pub one-end : {g : Net FloatCost} {s : ℕ} {k : Cutoff} {x y : End Float} → EndsIn g s k x → EndsIn g s k y → x ≡ y
+one-end {g} {s} {k} p q = ends-one (search64 (past k) none s) (laws64 (past k) none s) (OpenArcOf g) (begin-ok (search64 (past k) none s) (laws64 (past k) none s)) (p .run) (q .run)
+
+-- and shows in one way
+pub answers-one : {m : ℕ} {x y : End Float} {b e e′ : Buffers} → x ≡ y → Answers m x b e → Answers m y b e′ → (e .dist ≡ e′ .dist) × (e .preds ≡ e′ .preds)
+answers-one {m} {x} {y} {b} {e} {e′} q p p′ =
+    let r : Answers m y b e = subst (λ (z : End Float). Answers m z b e) q p in
+    (settled-one noneF64 (λ i h u v a c. a ∙ sym c) (r .dist) (p′ .dist), settled-one noneU32 (λ i h u v a c. a ∙ sym c) (r .preds) (p′ .preds))
+
+-- one number is not two
+split : {g : Net FloatCost} {s : ℕ} {k : Cutoff} {x y : End Float} → EndsIn g s k x → x .number ≡ 6 → EndsIn g s k y → y .number ≡ 0 → ⊥
+split {x = x} {y = y} p a q b = let c : x .number ≡ y .number = ap (λ (z : End Float). z .number) (one-end p q) in omega (arith, a, b, c)
+
+module _ {g : Net FloatCost} {s : ℕ} {k : Cutoff} {b : Buffers} where
+  -- the number and every buffer, the answers and the scratch
+  pub promise-one : {e e′ : Buffers} {no no′ : ℕ} → Promise g s k b e no → Promise g s k b e′ no′ → (no ≡ no′) × (e ≡ e′)
+  promise-one (short n p q) (short n′ p′ q′) = (n ∙ sym n′, q ∙ sym q′)
+  promise-one (short n p q) (outside n′ p′ i′ q′) = absurd (clash p′ p)
+  promise-one (short n p q) (absent n′ p′ i′ h′ q′) = absurd (clash p′ p)
+  promise-one (short n p q) (bad n′ p′ i′ h′ x′ r′ z′ q′) = absurd (clash p′ p)
+  promise-one (short n p q) (done n′ p′ i′ h′ x′ r′ z′ a′ q′) = absurd (clash p′ p)
+  promise-one (outside n p i q) (short n′ p′ q′) = absurd (clash p p′)
+  promise-one (outside n p i q) (outside n′ p′ i′ q′) = (n ∙ sym n′, q ∙ sym q′)
+  promise-one (outside n p i q) (absent n′ p′ i′ h′ q′) = absurd (clash i′ i)
+  promise-one (outside n p i q) (bad n′ p′ i′ h′ x′ r′ z′ q′) = absurd (clash i′ i)
+  promise-one (outside n p i q) (done n′ p′ i′ h′ x′ r′ z′ a′ q′) = absurd (clash i′ i)
+  promise-one (absent n p i h q) (short n′ p′ q′) = absurd (clash p p′)
+  promise-one (absent n p i h q) (outside n′ p′ i′ q′) = absurd (clash i i′)
+  promise-one (absent n p i h q) (absent n′ p′ i′ h′ q′) = (n ∙ sym n′, q ∙ sym q′)
+  promise-one (absent n p i h q) (bad n′ p′ i′ h′ x′ r′ z′ q′) = absurd (clash h′ h)
+  promise-one (absent n p i h q) (done n′ p′ i′ h′ x′ r′ z′ a′ q′) = absurd (clash h′ h)
+  promise-one (bad n p i h x r z q) (short n′ p′ q′) = absurd (clash p p′)
+  promise-one (bad n p i h x r z q) (outside n′ p′ i′ q′) = absurd (clash i i′)
+  promise-one (bad n p i h x r z q) (absent n′ p′ i′ h′ q′) = absurd (clash h h′)
+  promise-one (bad n p i h x r z q) (bad n′ p′ i′ h′ x′ r′ z′ q′) = (n ∙ sym n′, q ∙ sym q′)
+  promise-one (bad n p i h x r z q) (done n′ p′ i′ h′ x′ r′ z′ a′ q′) = absurd (split r z r′ z′)
+  promise-one (done n p i h x r z a q) (short n′ p′ q′) = absurd (clash p p′)
+  promise-one (done n p i h x r z a q) (outside n′ p′ i′ q′) = absurd (clash i i′)
+  promise-one (done n p i h x r z a q) (absent n′ p′ i′ h′ q′) = absurd (clash h h′)
+  promise-one (done n p i h x r z a q) (bad n′ p′ i′ h′ x′ r′ z′ q′) = absurd (split r′ z′ r z)
+  promise-one (done n p i h x r z a q) (done n′ p′ i′ h′ x′ r′ z′ a′ q′) = let o = answers-one (one-end r r′) a a′ in (n ∙ sym n′, q ∙ ((λ i. left g b (o .0 i) (o .1 i)) ∙ sym q′))
+
+  module _ {e : Buffers} {no : ℕ} where
+    -- ---- each number is given exactly when 01 says
+    pub one-exactly : Promise g s k b e no → (no ≡ 1) ↔ (enough g b ≡ false)
+    one-exactly (short n p q) = (λ y. p, λ y. n)
+    one-exactly (outside n p i q) = (λ y. other 2 1 n y (λ w. omega arith), λ y. absurd (clash p y))
+    one-exactly (absent n p i h q) = (λ y. other 3 1 n y (λ w. omega arith), λ y. absurd (clash p y))
+    one-exactly (bad n p i h x r z q) = (λ y. other 6 1 n y (λ w. omega arith), λ y. absurd (clash p y))
+    one-exactly (done n p i h x r z a q) = (λ y. other 0 1 n y (λ w. omega arith), λ y. absurd (clash p y))
+
+    pub two-exactly : Promise g s k b e no → (no ≡ 2) ↔ ((enough g b ≡ true) × (insideNet g ≡ false))
+    two-exactly (short n p q) = (λ y. other 1 2 n y (λ w. omega arith), λ y. absurd (clash (y .0) p))
+    two-exactly (outside n p i q) = (λ y. (p, i), λ y. n)
+    two-exactly (absent n p i h q) = (λ y. other 3 2 n y (λ w. omega arith), λ y. absurd (clash i (y .1)))
+    two-exactly (bad n p i h x r z q) = (λ y. other 6 2 n y (λ w. omega arith), λ y. absurd (clash i (y .1)))
+    two-exactly (done n p i h x r z a q) = (λ y. other 0 2 n y (λ w. omega arith), λ y. absurd (clash i (y .1)))
+
+    pub three-exactly : Promise g s k b e no → (no ≡ 3) ↔ ((enough g b ≡ true) × (insideNet g ≡ true) × (has g s ≡ false))
+    three-exactly (short n p q) = (λ y. other 1 3 n y (λ w. omega arith), λ y. absurd (clash (y .0) p))
+    three-exactly (outside n p i q) = (λ y. other 2 3 n y (λ w. omega arith), λ y. absurd (clash (y .1) i))
+    three-exactly (absent n p i h q) = (λ y. (p, i, h), λ y. n)
+    three-exactly (bad n p i h x r z q) = (λ y. other 6 3 n y (λ w. omega arith), λ y. absurd (clash h (y .2)))
+    three-exactly (done n p i h x r z a q) = (λ y. other 0 3 n y (λ w. omega arith), λ y. absurd (clash h (y .2)))
+
+    -- the pending bag takes and keeps an index with a bad open arc
+    pub six-exactly : Promise g s k b e no → (no ≡ 6) ↔ ((enough g b ≡ true) × (insideNet g ≡ true) × (has g s ≡ true) × (x : End Float) × EndsIn g s k x × (x .number ≡ 6))
+    six-exactly (short n p q) = (λ y. other 1 6 n y (λ w. omega arith), λ y. absurd (clash (y .0) p))
+    six-exactly (outside n p i q) = (λ y. other 2 6 n y (λ w. omega arith), λ y. absurd (clash (y .1) i))
+    six-exactly (absent n p i h q) = (λ y. other 3 6 n y (λ w. omega arith), λ y. absurd (clash (y .2) h))
+    six-exactly (bad n p i h x r z q) = (λ y. (p, i, h, x, r, z), λ y. n)
+    six-exactly (done n p i h x r z a q) = (λ y. other 0 6 n y (λ w. omega arith), λ y. absurd (split (y .4) (y .5) r z))
+
+-- ---- the promise goes by the open arcs: the user's demand 3
+module _ {g g′ : Net FloatCost} (same : SameNet g g′) where
+  same-enough : (b : Buffers) → enough g b ≡ enough g′ b
+  same-enough b = rw (same .whole, same .bound, same-size same)
+
+  same-left : (b : Buffers) (d : List Float) (p : List ℕ) → left g b d p ≡ left g′ b d p
+  same-left b d p = rw (same .bound, same-size same)
+
+  same-blank : (b : Buffers) → blank g b ≡ blank g′ b
+  same-blank b = same-left b _ _ ∙ rw (same .bound)
+
+  ends-over : {s : ℕ} {k : Cutoff} {x : End Float} → EndsIn g s k x → EndsIn g′ s k x
+  ends-over {s} {k} r = record { run = ends-map (search64 (past k) none s) (OpenArcOf g) (OpenArcOf g′) (λ u v c. same-open same u v c .0) (λ u v c. same-open same u v c .1) (r .run) }
+
+  pub promise-arcs : {s : ℕ} {k : Cutoff} {b e : Buffers} {no : ℕ} → Promise g s k b e no → Promise g′ s k b e no
+  promise-arcs {s} {k} {b} (short n p q) = short n (sym (same-enough b) ∙ p) q
+  promise-arcs {s} {k} {b} (outside n p i q) = outside n (sym (same-enough b) ∙ p) (sym (same-inside same) ∙ i) q
+  promise-arcs {s} {k} {b} (absent n p i h q) = absent n (sym (same-enough b) ∙ p) (sym (same-inside same) ∙ i) (sym (same .has s) ∙ h) q
+  promise-arcs {s} {k} {b} (bad n p i h x r z q) = bad n (sym (same-enough b) ∙ p) (sym (same-inside same) ∙ i) (sym (same .has s) ∙ h) x (ends-over r) z (q ∙ same-blank b)
+  promise-arcs {s} {k} {b} {e} (done n p i h x r z a q) =
+      done n (sym (same-enough b) ∙ p) (sym (same-inside same) ∙ i) (sym (same .has s) ∙ h) x (ends-over r) z (subst (λ (m : ℕ). Answers m x b e) (same .bound) a) (q ∙ same-left b (e .dist) (e .preds))
+
+  -- so two calls on such maps, with the same buffers, source and cutoff, answer the same and leave the same
+  pub same-answers : {s : ℕ} {k : Cutoff} {b e e′ : Buffers} {no no′ : ℕ} → Promise g s k b e no → Promise g′ s k b e′ no′ → (no ≡ no′) × (e ≡ e′)
+  same-answers p q = promise-one (promise-arcs p) q
+
+-- ---- cutoffs that cut the same
+module _ (k k′ : Cutoff) (alike : (x : Float) → past k x ≡ past k′ x) where
+  cut-over : {g : Net FloatCost} {s : ℕ} {x : End Float} → EndsIn g s k x → EndsIn g s k′ x
+  cut-over {g} {s} {x} r = record { run = subst (λ (c : Float → Bool). Ends (search64 c none s) (OpenArcOf g) (begin (search64 c none s)) 0 x) (λ i y. alike y i) (r .run) }
+
+  pub promise-cut : {g : Net FloatCost} {s : ℕ} {b e : Buffers} {no : ℕ} → Promise g s k b e no → Promise g s k′ b e no
+  promise-cut (short n p q) = short n p q
+  promise-cut (outside n p i q) = outside n p i q
+  promise-cut (absent n p i h q) = absent n p i h q
+  promise-cut (bad n p i h x r z q) = bad n p i h x (cut-over r) z q
+  promise-cut (done n p i h x r z a q) = done n p i h x (cut-over r) z a q
+
+-- a NaN cuts nothing, nor does +infinity: both answer as no cutoff
+pub cutoff-nan : {g : Net FloatCost} {s : ℕ} {b e : Buffers} {no : ℕ} → Promise g s (At nan) b e no ↔ Promise g s None b e no
+cutoff-nan = (promise-cut (At nan) None (λ x. past-nan x ∙ sym (past-none x)), promise-cut None (At nan) (λ x. past-none x ∙ sym (past-nan x)))
+
+pub cutoff-infinity : {g : Net FloatCost} {s : ℕ} {b e : Buffers} {no : ℕ} → Promise g s (At (inf false)) b e no ↔ Promise g s None b e no
+cutoff-infinity = (promise-cut (At (inf false)) None (λ x. past-infinity x ∙ sym (past-none x)), promise-cut None (At (inf false)) (λ x. past-none x ∙ sym (past-infinity x)))
+
+-- ---- the scratch is within what 01 allows
+pub scratch-budget : (m a : ℕ) → (m + 1) + a + a + m + m + m ≤ 8 * (m + 1) + 4 * a
+scratch-budget m a = omega arith

@@ -1,0 +1,83 @@
+-- What `dijkstra_path_impl` and `dijkstra_path_f64` promise, to be laid beside 01.
+-- Assumes nothing.
+use mathlib.Core.Path.{_≡_}
+use mathlib.Core.Bool.{Bool, true, false, _&&_}
+use mathlib.Core.List.{List}
+use mathlib.Core.Option.{none}
+use Prim.Native.Nat.{ℕ, _+_}
+use lib.Dec.{leb}
+use lib.Ieee.{Float}
+use lib.ListN.{length}
+use Rattle.clean.specs.Fill.{filled, Settled}
+use Rattle.clean.specs.None.{noneF64, noneU32}
+use Rattle.float.specs.Dist.{zero64}
+use Rattle.float.specs.Cutoff.{past}
+use Rattle.float.specs.declared.Cutoff.{Cutoff}
+use Rattle.table.specs.Lent.{FloatCost}
+use Rattle.net.specs.Net.{Net, OpenArcOf, wholeNet, insideNet, has, sizeOf}
+use Rattle.pending.specs.Setting.{End}
+use Rattle.pending.specs.OnePlace.{begin, Ends}
+use Rattle.pending.specs.Floats.{search64}
+use Rattle.turns.specs.Shown.{shown}
+
+-- the lent buffers: distances and predecessors, and the scratch
+pub record Buffers : Type 0 where
+  pub dist : List Float
+  pub preds : List ℕ
+  pub offsets : List ℕ
+  pub heads : List ℕ
+  pub weights : List ℕ
+  pub heap : List ℕ
+  pub places : List ℕ
+  pub keys : List Float
+
+abbrev pub buffersOf : List Float → List ℕ → List ℕ → List ℕ → List ℕ → List ℕ → List ℕ → List Float → Buffers
+buffersOf d p o h w q i k = record { dist = d; preds = p; offsets = o; heads = h; weights = w; heap = q; places = i; keys = k }
+
+-- is each buffer as long as the part used? 4m + 1 + 2a entries of scratch in all
+unfoldable pub longEnough : ℕ → ℕ → Buffers → Bool
+longEnough m a b =
+    leb m (length (b .dist)) && (leb m (length (b .preds)) && (leb (m + 1) (length (b .offsets)) && (leb a (length (b .heads)) && (leb a (length (b .weights)) && (leb m (length (b .heap)) && (leb m (length (b .places)) && leb m (length (b .keys))))))))
+
+-- nothing that refusal 1 names
+abbrev pub enough : Net FloatCost → Buffers → Bool
+enough g b = wholeNet g && longEnough (g .bound) (sizeOf g) b
+
+-- after 0 and 6: the needed part of each scratch slice is all zero and the rest as before; the answers are d and p
+abbrev pub left : Net FloatCost → Buffers → List Float → List ℕ → Buffers
+left g b d p = record {
+  dist = d;
+  preds = p;
+  offsets = filled (g .bound + 1) 0 (b .offsets);
+  heads = filled (sizeOf g) 0 (b .heads);
+  weights = filled (sizeOf g) 0 (b .weights);
+  heap = filled (g .bound) 0 (b .heap);
+  places = filled (g .bound) 0 (b .places);
+  keys = filled (g .bound) zero64 (b .keys);
+}
+
+-- blank: none in every entry used, and entries past m as before
+abbrev pub blank : Net FloatCost → Buffers → Buffers
+blank g b = left g b (filled (g .bound) noneF64 (b .dist)) (filled (g .bound) noneU32 (b .preds))
+
+-- what the pending bag ends in, from the source, with the cutoff, over the open arcs of the map
+pub record EndsIn (g : Net FloatCost) (s : ℕ) (k : Cutoff) (x : End Float) : Type 0 where
+  pub run : Ends (search64 (past k) none s) (OpenArcOf g) (begin (search64 (past k) none s)) 0 x
+
+-- each index below m shows its distance and its predecessor, none where it has none; entries past m as before
+pub record Answers (m : ℕ) (x : End Float) (b e : Buffers) : Type 0 where
+  pub dist : Settled m (λ v d. d ≡ shown noneF64 (x .dist v)) (b .dist) (e .dist)
+  pub preds : Settled m (λ v p. p ≡ shown noneU32 (x .pred v)) (b .preds) (e .preds)
+
+-- the answer `no` and the buffers `e` that the call leaves, of the map g, the source s, the cutoff k and the buffers b that it was lent
+pub data Promise (g : Net FloatCost) (s : ℕ) (k : Cutoff) (b e : Buffers) (no : ℕ) : Type 0 where
+  -- 1: a limit is passed, or a lent slice is shorter than the part used; untouched
+  short : no ≡ 1 → enough g b ≡ false → e ≡ b → Promise g s k b e no
+  -- 2: a link names an index at or above m, or absent; untouched
+  outside : no ≡ 2 → enough g b ≡ true → insideNet g ≡ false → e ≡ b → Promise g s k b e no
+  -- 3: a source that is absent or at or above m; untouched
+  absent : no ≡ 3 → enough g b ≡ true → insideNet g ≡ true → has g s ≡ false → e ≡ b → Promise g s k b e no
+  -- 6: the pending bag meets a bad cost; blank
+  bad : no ≡ 6 → enough g b ≡ true → insideNet g ≡ true → has g s ≡ true → (x : End Float) → EndsIn g s k x → x .number ≡ 6 → e ≡ blank g b → Promise g s k b e no
+  -- 0: done
+  done : no ≡ 0 → enough g b ≡ true → insideNet g ≡ true → has g s ≡ true → (x : End Float) → EndsIn g s k x → x .number ≡ 0 → Answers (g .bound) x b e → e ≡ left g b (e .dist) (e .preds) → Promise g s k b e no

@@ -1,0 +1,21 @@
+-- What the f64 search goes by: the pending bag's rules at f64, with a cutoff, and how a lent distance is read.
+-- Assumes nothing.
+use mathlib.Core.Option.{Option, none, some}
+use Prim.Native.Nat.{ℕ}
+use lib.Ieee.{Float, binary64, eq}
+use Rattle.clean.specs.None.{noneF64}
+use Rattle.float.specs.Dist.{Dist, zero64, plus64}
+use Rattle.float.specs.Cost.{badCost}
+use Rattle.float.specs.Cutoff.{past}
+use Rattle.float.specs.declared.Cutoff.{Cutoff}
+use Rattle.bag.specs.Floats.{floats}
+use Rattle.bag.specs.Order.{pick}
+use Rattle.turns.specs.Kind.{Kind}
+
+-- the distance that a lent entry stands for
+unfoldable pub read64 : Float → Option Float
+read64 x = pick (eq x noneF64) none (some x)
+
+-- a search with a cutoff: its keys are the distances, its costs are patterns
+abbrev pub kind64 : Cutoff → Kind Float ℕ
+kind64 k = record { order = floats; zero = zero64; plus = plus64; key = λ d v. d; bad = badCost binary64; cut = past k; blank = noneF64; read = read64; good = Dist binary64 }

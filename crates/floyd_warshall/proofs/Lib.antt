@@ -1,0 +1,11 @@
+pub mod Bits
+pub mod Cells
+pub mod Triangle
+pub mod Turns
+pub mod Totals
+pub mod Poured
+pub mod Filled
+pub mod Stores
+pub mod Refusals
+pub mod Answers
+pub mod Settles

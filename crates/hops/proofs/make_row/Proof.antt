@@ -1,0 +1,39 @@
+-- `hops::make_row` meets its contract.
+-- Assumes nothing.
+use borrow.Author.Needs.{needs}
+use Rattle.hops.proofs.make_row.Statement.{statement}
+use Rattle.hops.proofs.make_row.Tie as tie
+use Rattle.hops.proofs.Cells.{fresh, can-show, row-made}
+
+clear-usize-requires : tie.Need-clear-usize-requires
+clear-usize-requires c κs = c .before .before .before .before .before .before .before .pre .1 .roomL
+
+search-requires : tie.Need-search-requires
+search-requires c κs = (c .before .before .before .before .before .before .before .before .before .before .before .before .pre .0, fresh (c .before .before .before .before .before .before .before .before .before .before .before .before .pre .1) (c .before .before .before .before .clear-usize .ensures))
+
+show-row-requires : tie.Need-show-row-requires
+show-row-requires c κs = can-show (c .before .before .before .before .before .before .before .before .before .before .before .before .before .before .before .before .before .before .before .pre .1) (c .before .before .before .before .before .before .before .before .before .before .before .clear-usize .ensures) (c .before .before .before .before .before .before .search .ensures) (c .before .before .before .before .before .before .before .before .before .before .before .before .before .before .before .before .before .before .before .pre .0 .bounded)
+
+same-length : tie.Need-same-length
+same-length c = search needs
+
+same-length-2 : tie.Need-same-length-2
+same-length-2 c = search needs
+
+same-length-3 : tie.Need-same-length-3
+same-length-3 c = search needs
+
+returns : tie.Need-returns
+returns c = row-made (c .before .before .before .before .before .before .before .before .before .before .before .before .before .before .before .before .before .before .before .before .before .before .pre .1) (c .before .before .before .before .before .before .before .before .before .before .before .before .before .before .clear-usize .ensures) (c .before .before .before .before .before .before .before .before .before .search .ensures) (c .before .before .show-row .ensures)
+
+pub make-row-spec : {M : Type 1} → statement M
+make-row-spec =
+    tie.close
+    (tie.spec
+    clear-usize-requires
+    search-requires
+    show-row-requires
+    same-length
+    same-length-2
+    same-length-3
+    returns)

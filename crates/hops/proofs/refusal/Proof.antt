@@ -1,0 +1,42 @@
+-- `hops::refusal` meets its contract.
+-- Assumes nothing.
+use borrow.Author.Needs.{needs}
+use Rattle.hops.proofs.refusal.Statement.{statement}
+use Rattle.hops.proofs.refusal.Tie as tie
+use mathlib.Core.Path.{sym, _∙_}
+use borrow.Author.Tests.{not-true, not-false}
+use Rattle.net.proofs.Bounds.{whole-ints}
+use Rattle.hops.proofs.Refusals.{refused-limits, refused-short, refused-outside, refused-none}
+
+whole-requires : tie.Need-whole-requires
+whole-requires c κs = search needs
+
+returns : tie.Need-returns
+returns c = refused-limits _ _ (sym (c .before .whole .ensures) ∙ not-true _ (c .if1 .taken))
+
+long-enough-requires : tie.Need-long-enough-requires
+long-enough-requires c κs = let w = whole-ints _ _ (c .before .before .before .before .before .before .before .before .before .before .before .args .map .directed) _ _ _ _ (sym (c .before .whole .ensures) ∙ not-false _ (c .if1 .left)) in (w .indices, w .links, w .marked)
+
+returns-2 : tie.Need-returns-2
+returns-2 c = refused-short _ _ (sym (c .before .before .before .whole .ensures) ∙ not-false _ (c .before .before .if1 .left)) (sym (c .before .long-enough .ensures) ∙ not-true _ (c .if2 .taken))
+
+inside-requires : tie.Need-inside-requires
+inside-requires c κs = sym (c .before .before .before .whole .ensures) ∙ not-false _ (c .before .before .if1 .left)
+
+returns-3 : tie.Need-returns-3
+returns-3 c = refused-outside _ _ (sym (c .before .before .before .before .before .whole .ensures) ∙ not-false _ (c .before .before .before .before .if1 .left)) (sym (c .before .before .before .long-enough .ensures) ∙ not-false _ (c .before .before .if2 .left)) (sym (c .before .inside .ensures) ∙ not-true _ (c .if3 .taken))
+
+returns-4 : tie.Need-returns-4
+returns-4 c = refused-none _ _ (sym (c .before .before .before .before .before .whole .ensures) ∙ not-false _ (c .before .before .before .before .if1 .left)) (sym (c .before .before .before .long-enough .ensures) ∙ not-false _ (c .before .before .if2 .left)) (sym (c .before .inside .ensures) ∙ not-false _ (c .if3 .left))
+
+pub refusal-spec : {M : Type 1} → statement M
+refusal-spec =
+    tie.close
+    (tie.spec
+    whole-requires
+    returns
+    long-enough-requires
+    returns-2
+    inside-requires
+    returns-3
+    returns-4)

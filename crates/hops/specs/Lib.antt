@@ -1,0 +1,4 @@
+pub mod Steps
+pub mod Promise
+pub mod Search
+pub mod Parts

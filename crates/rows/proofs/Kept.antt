@@ -1,0 +1,98 @@
+-- Slices of which only the part used changed: one change after another, by a store, by filling, by a neighbour list that was made; and wiped before and after.
+-- Assumes nothing.
+use mathlib.Core.Path.{_≡_, refl, ap, _∙_}
+use mathlib.Core.Bool.{true, false}
+use mathlib.Core.List.{List}
+use Prim.Native.Nat.{ℕ, _+_, _≤_, _<_}
+use native.Mathlib.Omega.{arith}
+use borrow.Author.Tests.{leb-true, le-leb, lt-leb}
+use lib.Dec.{leb}
+use lib.ListN.{length, drop, set, length-set}
+use lib.Seq.{drop-set-lt}
+use Rattle.whole.proofs.Cases.{and-left, and-right}
+use Rattle.clean.specs.Fill.{filled}
+use Rattle.clean.proofs.Filled.{filled-length, filled-rest, filled-twice}
+use Rattle.table.specs.Links.{Link}
+use Rattle.rows.specs.Rows.{Lists, listsOf, Room, Rows}
+use Rattle.rows.specs.Scratch.{hasRoom, wiped}
+use Rattle.rows.specs.Kept.{Kept, KeptLists, Needs}
+use Rattle.rows.proofs.Graph.{kept}
+
+module _ {A : Type 0} where
+  -- nothing changed, and one change after another
+  pub kept-none : {n : ℕ} {l : List A} → Kept n l l
+  kept-none = record { long = refl; rest = refl }
+
+  pub kept-more : {n : ℕ} {a b c : List A} → Kept n a b → Kept n b c → Kept n a c
+  kept-more p q = record { long = q .long ∙ p .long; rest = q .rest ∙ p .rest }
+
+  -- a store, and a part filled
+  pub kept-set : {n : ℕ} (l : List A) (i : ℕ) (x : A) → i < n → Kept n l (set l i x)
+  kept-set {n} l i x h = record { long = length-set l i x; rest = drop-set-lt n l i x h }
+
+  pub kept-filled : {n : ℕ} (x : A) {a b : List A} → n ≤ length a → b ≡ filled n x a → Kept n a b
+  kept-filled {n} x {a} h e = record { long = ap length e ∙ filled-length n x a h; rest = ap (drop n) e ∙ filled-rest n x a }
+
+  -- filled, used, and filled again
+  pub kept-twice : {n : ℕ} (x : A) (l : List A) {a b c : List A} → a ≡ filled n x l → Kept n a b → c ≡ filled n x b → c ≡ filled n x l
+  kept-twice {n} x l {a} {b} {c} p q r = filled-twice n x l a b c p (q .rest) r
+
+-- the slices of a neighbour list
+module _ {C : Type 0} where
+  -- what the tests of the lengths say
+  module _ (m a : ℕ) (s : Lists C) where
+    pub room-offsets : length (s .offsets) ≤ m → false ≡ hasRoom m a s
+    unfolding hasRoom
+    room-offsets h = rw (lt-leb (m + 1) (length (s .offsets)) (omega arith))
+
+    pub room-heads : m < length (s .offsets) → length (s .heads) < a → false ≡ hasRoom m a s
+    unfolding hasRoom
+    room-heads h k = rw (le-leb (m + 1) (length (s .offsets)) (omega arith), lt-leb a (length (s .heads)) k)
+
+    pub room-weights : m < length (s .offsets) → a ≤ length (s .heads) → leb a (length (s .weights)) ≡ hasRoom m a s
+    unfolding hasRoom
+    room-weights h k = rw (le-leb (m + 1) (length (s .offsets)) (omega arith), le-leb a (length (s .heads)) k)
+
+  pub has-needs : (m a : ℕ) (s : Lists C) → hasRoom m a s ≡ true → Needs m a s
+  unfolding hasRoom
+  has-needs m a s e =
+      let f = and-right (leb (m + 1) (length (s .offsets))) _ e in
+      record {
+        offsets = leb-true _ _ (and-left (leb (m + 1) (length (s .offsets))) _ e);
+        heads = leb-true _ _ (and-left (leb a (length (s .heads))) _ f);
+        weights = leb-true _ _ (and-right (leb a (length (s .heads))) _ f);
+      }
+
+  module _ {m a : ℕ} where
+    pub needs-kept : {s t : Lists C} → Needs m a s → KeptLists m a s t → Needs m a t
+    needs-kept n k = record { offsets = rw (k .offsets .long) (n .offsets); heads = rw (k .heads .long) (n .heads); weights = rw (k .weights .long) (n .weights) }
+
+    pub lists-wiped : (z : C) {s t : Lists C} → Needs m a s → t ≡ wiped m a z s → KeptLists m a s t
+    lists-wiped z n e = record {
+      offsets = kept-filled 0 (n .offsets) (ap (λ (l : Lists C). l .offsets) e);
+      heads = kept-filled 0 (n .heads) (ap (λ (l : Lists C). l .heads) e);
+      weights = kept-filled z (n .weights) (ap (λ (l : Lists C). l .weights) e);
+    }
+
+    -- wiped, used, and wiped again
+    pub wiped-twice : (z : C) (s : Lists C) {t u v : Lists C} → t ≡ wiped m a z s → KeptLists m a t u → v ≡ wiped m a z u → v ≡ wiped m a z s
+    wiped-twice z s {t} {u} {v} p k q = λ i. listsOf (o i) (h i) (w i)
+      where
+        o : v .offsets ≡ filled (m + 1) 0 (s .offsets)
+        o = kept-twice 0 (s .offsets) (ap (λ (l : Lists C). l .offsets) p) (k .offsets) (ap (λ (l : Lists C). l .offsets) q)
+
+        h : v .heads ≡ filled a 0 (s .heads)
+        h = kept-twice 0 (s .heads) (ap (λ (l : Lists C). l .heads) p) (k .heads) (ap (λ (l : Lists C). l .heads) q)
+
+        w : v .weights ≡ filled a z (s .weights)
+        w = kept-twice z (s .weights) (ap (λ (l : Lists C). l .weights) p) (k .weights) (ap (λ (l : Lists C). l .weights) q)
+
+    -- room for arcs that are no more than a, and what making their list keeps
+    module _ {A : List (Link C)} (few : length A ≤ a) where
+      pub needs-room : {s : Lists C} → Needs m a s → Room A m s
+      needs-room n = record { offsets = omega (arith, n .offsets); heads = omega (arith, n .heads); weights = omega (arith, n .weights) }
+
+      pub rows-kept : {s t : Lists C} → Rows A m s t → KeptLists m a s t
+      rows-kept r =
+          let k = kept r a few in
+          record { offsets = record { long = k .longO; rest = k .restO }; heads = record { long = k .longH; rest = k .restH }; weights = record { long = k .longW; rest = k .restW } }

@@ -1,0 +1,5 @@
+pub mod Kind
+pub mod Shown
+pub mod Memory
+pub mod Row
+pub mod Searched
