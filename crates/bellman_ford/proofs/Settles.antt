@@ -2,8 +2,7 @@
 -- Assumes nothing.
 use mathlib.Core.Path.{_≡_, refl, sym, ap, _∙_, subst}
 use mathlib.Core.Bool.{Bool, true, false}
-use mathlib.Core.List.{List, [], _∷_}
-use mathlib.Core.Logic.{inl, inr, ⊎-elim, _↔_}
+use mathlib.Core.Logic.{inl, inr, _↔_}
 use Prim.Native.Nat.{ℕ, _+_, _*_, _≤_, _<_, _^_}
 use native.Mathlib.Omega.{arith}
 use lib.IntN.{ℤ, pos}
@@ -14,16 +13,14 @@ use Rattle.whole.proofs.Cases.{clash, other}
 use Rattle.clean.specs.Fill.{Settled}
 use Rattle.clean.specs.None.{noneI64}
 use Rattle.clean.proofs.Filled.{settled-one, settled-over}
-use Rattle.table.specs.Links.{Link, Arc}
-use Rattle.table.proofs.Joins.{joined, joins-of}
 use Rattle.walks.specs.Walk.{Walk, stay, step, Least, NoNeg, NegativeFrom, Entry}
 use Rattle.walks.proofs.Walk.{arc, join, not-both}
 use Rattle.walks.proofs.Cheap.{least-within}
 use Rattle.walks.proofs.Over.{entry-one, entry-over, noneg-over, negative-from-over}
-use Rattle.net.specs.Net.{Net, ArcOf, linksOf, insideNet, has, nodesOf, sizeOf, SameNet}
+use Rattle.net.specs.Net.{Net, ArcOf, insideNet, has, nodesOf, sizeOf, SameNet}
 use Rattle.net.proofs.Bounds.{Whole, width-small}
 use Rattle.net.proofs.Nodes.{present-in}
-use Rattle.net.proofs.Same.{arc-has, same-inside, same-size}
+use Rattle.net.proofs.Same.{arc-has, arc-turned, same-inside, same-size}
 use Rattle.rows.specs.Kept.{Kept}
 use Rattle.rows.proofs.Kept.{kept-none, kept-filled}
 use Rattle.bellman_ford.specs.Promise.{Buffers, enough, clear, blank, Promise, short, outside, unknown, negative, done}
@@ -145,13 +142,8 @@ module _ (g : Net ℤ) (s v : ℕ) (d : ℤ) (inside : insideNet g ≡ true) (so
       omega (arith, zed, width-small whole)
 
 -- ---- undirected: a link below zero in reach is a closed walk below zero, there and back
-turned-arc : (d : Bool) → d ≡ false → (ls : List (Link ℤ)) (u v : ℕ) (c : ℤ) → Arc d ls u v c → Arc d ls v u c
-turned-arc d e [] u v c a = a
-turned-arc d e (l ∷ ls) u v c (inl a) = inl (joins-of d v u l (⊎-elim (λ p. inr (e, p .0, p .1)) (λ p. inl (p .1, p .2)) (joined d u v l (a .0))), a .1)
-turned-arc d e (l ∷ ls) u v c (inr a) = inr (turned-arc d e ls u v c a)
-
 pub undirected-negative : (g : Net ℤ) (s u v : ℕ) (t c : ℤ) → g .directed ≡ false → Walk (ArcOf g) s u t → ArcOf g u v c → c <ℤ pos 0 → NegativeFrom (ArcOf g) s
-undirected-negative g s u v t c e w a h = record { x = u; a = t; t = c ⊕ c; reach = w; loop = join (arc a) (arc (turned-arc (g .directed) e (linksOf g) u v c a)) refl; below = omega (arith, zed, sum c c) }
+undirected-negative g s u v t c e w a h = record { x = u; a = t; t = c ⊕ c; reach = w; loop = join (arc a) (arc (arc-turned g e u v c a)) refl; below = omega (arith, zed, sum c c) }
 
 -- so the answer is 7
 pub undirected-seven : {g : Net ℤ} {s u no : ℕ} {t : ℤ} {b e : Buffers} (v : ℕ) (c : ℤ) → Promise g s b e no → enough g b ≡ true → insideNet g ≡ true → has g s ≡ true → g .directed ≡ false → Walk (ArcOf g) s u t → ArcOf g u v c → c <ℤ pos 0 → no ≡ 7

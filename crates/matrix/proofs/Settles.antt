@@ -2,8 +2,8 @@
 -- Assumes nothing.
 use mathlib.Core.Path.{_≡_, refl, sym, ap, _∙_}
 use mathlib.Core.Bool.{Bool, true, false}
-use mathlib.Core.List.{List, [], _∷_}
-use mathlib.Core.Logic.{inl, inr, ⊎-elim, _↔_}
+use mathlib.Core.List.{List}
+use mathlib.Core.Logic.{_↔_}
 use Prim.Native.Nat.{ℕ, _*_}
 use native.Mathlib.Omega.{arith}
 use lib.IntN.{ℤ, pos}
@@ -12,12 +12,10 @@ use Rattle.whole.specs.Zed.{_⊕_, zed, sum}
 use Rattle.whole.proofs.Cases.{clash, other}
 use Rattle.clean.specs.Fill.{filled}
 use Rattle.clean.specs.None.{noneI64}
-use Rattle.table.specs.Links.{Link, Arc}
-use Rattle.table.proofs.Joins.{joined, joins-of}
 use Rattle.walks.specs.Walk.{stay, step, Negative}
 use Rattle.walks.proofs.Over.{negative-over}
-use Rattle.net.specs.Net.{Net, ArcOf, insideNet, linksOf, SameNet}
-use Rattle.net.proofs.Same.{same-inside, same-width}
+use Rattle.net.specs.Net.{Net, ArcOf, insideNet, SameNet}
+use Rattle.net.proofs.Same.{arc-turned, same-inside, same-width}
 use Rattle.matrix.specs.Matrix.{AllPairs, short, outside, negative, done}
 use Rattle.matrix.proofs.Matrix.{matrix-one, matrix-over}
 
@@ -61,18 +59,12 @@ module _ {S : Type 0} {g : Net ℤ} {long : Bool} {lent clear : S} {before : Lis
     seven-exactly (negative n l i x a s) = (λ z. (l, i, x), λ z. n)
     seven-exactly (done n l i x a s) = (λ z. other 0 7 n z (λ y. omega arith), λ z. absurd (x (z .2)))
 
--- an undirected link is an arc both ways
-turned : (d : Bool) (ls : List (Link ℤ)) → d ≡ false → (u v : ℕ) (c : ℤ) → Arc d ls u v c → Arc d ls v u c
-turned d [] e u v c a = absurd a
-turned d (l ∷ ls) e u v c (inr a) = inr (turned d ls e u v c a)
-turned d (l ∷ ls) e u v c (inl a) = inl (joins-of d v u l (⊎-elim (λ q. inr (e, q .0, q .1)) (λ q. inl (q .1, q .2)) (joined d u v l (a .0))), a .1)
-
--- so a cost below zero, there and back, is a closed walk below zero: 7 for every undirected map with a negative cost
+-- undirected: a cost below zero, there and back, is a closed walk below zero: 7 for every undirected map with a negative cost
 pub undirected-negative : (g : Net ℤ) → g .directed ≡ false → (u v : ℕ) (c : ℤ) → ArcOf g u v c → c <ℤ pos 0 → Negative (ArcOf g)
 undirected-negative g e u v c a h = record {
   x = u;
   t = c ⊕ (c ⊕ pos 0);
-  loop = step a (step (turned (g .directed) (linksOf g) e u v c a) (stay refl) refl) refl;
+  loop = step a (step (arc-turned g e u v c a) (stay refl) refl) refl;
   below = omega (arith, zed, sum c (c ⊕ pos 0), sum c (pos 0));
 }
 

@@ -2,11 +2,14 @@
 -- Assumes nothing.
 use mathlib.Core.Path.{_≡_, refl, sym, ap, _∙_}
 use mathlib.Core.Bool.{Bool, true, false}
-use mathlib.Core.Logic.{_↔_}
+use mathlib.Core.List.{List, [], _∷_}
+use mathlib.Core.Logic.{inl, inr, ⊎-elim, _↔_}
 use Prim.Native.Nat.{ℕ, _<_}
 use lib.ListN.{length}
+use Rattle.table.specs.Links.{Link, Arc}
 use Rattle.table.specs.Lent.{FloatCost}
 use Rattle.table.proofs.Arcs.{arc-inside, inside-arc}
+use Rattle.table.proofs.Joins.{joined, joins-of}
 use Rattle.net.specs.Net.{Net, linksOf, ArcOf, OpenArcOf, LeadsOf, has, rising, nodesOf, width, insideNet, arcRoom, sizeOf, SameNet}
 use Rattle.net.proofs.Nodes.{rising-same, has-below}
 
@@ -30,6 +33,15 @@ module _ {C : Type 0} (g : Net C) (e : insideNet g ≡ true) where
 
   pub leads-below : (u v : ℕ) → LeadsOf g u v → (u < g .bound) × (v < g .bound)
   leads-below u v w = arc-below u v (w .0) (w .1)
+
+-- undirected, an arc goes both ways
+turned : {C : Type 0} (d : Bool) → d ≡ false → (ls : List (Link C)) (u v : ℕ) (c : C) → Arc d ls u v c → Arc d ls v u c
+turned d e [] u v c a = a
+turned d e (l ∷ ls) u v c (inl a) = inl (joins-of d v u l (⊎-elim (λ p. inr (e, p .0, p .1)) (λ p. inl (p .1, p .2)) (joined d u v l (a .0))), a .1)
+turned d e (l ∷ ls) u v c (inr a) = inr (turned d e ls u v c a)
+
+pub arc-turned : {C : Type 0} (g : Net C) → g .directed ≡ false → (u v : ℕ) (c : C) → ArcOf g u v c → ArcOf g v u c
+arc-turned g e u v c a = turned (g .directed) e (linksOf g) u v c a
 
 module _ (g : Net FloatCost) (e : insideNet g ≡ true) where
   pub open-has : (u v x : ℕ) → OpenArcOf g u v x → (has g u ≡ true) × (has g v ≡ true)

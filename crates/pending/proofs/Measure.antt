@@ -7,6 +7,7 @@ use mathlib.Core.List.{List, [], _∷_}
 use mathlib.Core.Option.{Option}
 use Prim.Native.Nat.{ℕ, zero, suc, _+_, _*_, _<_, _≤_}
 use native.Mathlib.Omega.{arith}
+use lib.ListN.{length}
 use lib.IntN.{ℤ}
 use Rattle.whole.specs.Zed.{P}
 use Rattle.walks.specs.Pigeon.{In, here, there}
@@ -25,6 +26,16 @@ module _ (M : ℕ) where
   under out f = omega arith
   under (has d p true) f = let k : P d ≤ M = f d p (record { flag = true; is = refl }) in omega arith
   under (has d p false) f = let k : P d ≤ M = f d p (record { flag = false; is = refl }) in omega arith
+
+  -- no index weighs more than one without a distance
+  load-most : (c : Cell ℤ) → ((d : ℤ) (p : Option ℕ) → Has c d p → P d ≤ M) → load M c ≤ 2 * M + 2
+  load-most out f = omega arith
+  load-most (has d p b) f = omega (arith, under (has d p b) f)
+
+  -- so the load of the indices is bounded by their number
+  pub over-most : (s : ℕ → Cell ℤ) → ((v : ℕ) (d : ℤ) (p : Option ℕ) → Has (s v) d p → P d ≤ M) → (l : List ℕ) → over (load M) s l ≤ length l * (2 * M + 2)
+  over-most s f [] = omega arith
+  over-most s f (v ∷ l) = omega (arith, load-most (s v) (f v), over-most s f l)
 
   -- the two measures of `Falls`, as one
   one-lower : (a b x y : ℕ) → x ≤ suc (2 * M) → Lower a b x y → a * (2 * M + 2) + x ≤ b * (2 * M + 2) + y

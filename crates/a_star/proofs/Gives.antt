@@ -1,0 +1,168 @@
+-- What a path that is given is: a path of the map from the source to the target without an index twice, its total with the cheapest arcs never above the cost; with
+-- a heuristic that is 0 at the target and at each index of the map no more than the total of any walk from there to the target, the cost is the least total and the
+-- path's. From the source to itself it is the source alone, at cost 0.
+-- Assumes nothing.
+use mathlib.Core.Path.{_≡_, refl, sym, ap, _∙_, subst}
+use mathlib.Core.Bool.{true}
+use mathlib.Core.List.{List, [], _∷_, reverse, reverse-reverse}
+use mathlib.Core.Logic.{inl, inr, _↔_}
+use mathlib.Core.Option.{Option, none, some}
+use Prim.Native.Nat.{ℕ, suc, _≤_, _<_}
+use native.Mathlib.Omega.{arith}
+use borrow.Author.Tests.{eq-eqb}
+use lib.IntN.{ℤ, pos}
+use lib.Signed.{_≤ℤ_}
+use lib.ListN.{length, getD, take, drop, length-reverse}
+use lib.Seq.{take-at}
+use Rattle.whole.proofs.Cases.{clash}
+use Rattle.clean.specs.Fill.{filled}
+use Rattle.clean.specs.None.{noneU32}
+use Rattle.walks.specs.Pigeon.{NoDup}
+use Rattle.walks.specs.Walk.{Walk, stay, step, Least}
+use Rattle.walks.specs.Chain.{passed, Cheapest}
+use Rattle.walks.proofs.Chain.{chain-distinct, passed-length}
+use Rattle.pending.specs.Setting.{End}
+use Rattle.pending.specs.OnePlace.{Cell, out, has as held, distOf, doneAt, begin, Ends, empty, found, wrong, more}
+use Rattle.pending.specs.Reach.{Admissible}
+use Rattle.pending.proofs.Cells.{upd-cases, upd-here, not-out}
+use Rattle.net.specs.Net.{Net, ArcOf, has, width, sizeOf}
+use Rattle.net.proofs.Same.{arc-has}
+use Rattle.a_star.specs.Promise.{Question, Answer, answerOf, Buffers, Fine, written, searchOf, Says, bad, unreached, reached, Outcome, Promise, short, outside, noSource, noTarget, farGuess, ran}
+use Rattle.a_star.proofs.Path.{Path, chain-path, distinct-back, passed-source}
+use Rattle.a_star.proofs.Answers.{answered, chain-few}
+
+-- the path that is given: as many entries as the answer says
+abbrev pub pathIn : Buffers → Answer → List ℕ
+pathIn e r = take (r .length) (e .path)
+
+-- what 01 asks of a heuristic for the least total
+pub record Modest (g : Net ℤ) (q : Question) : Type 0 where
+  pub at-target : getD (q .guess) (q .target) (pos 0) ≡ pos 0
+  pub under : (v : ℕ) → has g v ≡ true → (t : ℤ) → Walk (ArcOf g) v (q .target) t → getD (q .guess) v (pos 0) ≤ℤ t
+
+-- what a path that is given is
+pub record Given (g : Net ℤ) (q : Question) (r : Answer) (l : List ℕ) : Type 0 where
+  pub path : Path (ArcOf g) (q .source) (q .target) l
+  pub distinct : NoDup l
+  pub few : length l ≤ width g
+  pub walk : Walk (ArcOf g) (q .source) (q .target) (r .cost)
+  pub low : (t : ℤ) → Cheapest (ArcOf g) (reverse l) t → t ≤ℤ r .cost
+  pub least : Modest g q → Least (ArcOf g) (q .source) (q .target) (r .cost)
+  pub total : Modest g q → (t : ℤ) → Cheapest (ArcOf g) (reverse l) t → t ≡ r .cost
+
+-- an index from which a walk leads to one that the map has is one too
+starts-has : (g : Net ℤ) → ((u v : ℕ) (c : ℤ) → ArcOf g u v c → has g u ≡ true) → {u v : ℕ} {t : ℤ} → Walk (ArcOf g) u v t → has g v ≡ true → has g u ≡ true
+starts-has g f (stay e) h = h
+starts-has g f (step {u} {v} {c = c} a w e) h = f u v c a
+
+-- the front of what was written
+written-front : (l p : List ℕ) (n : ℕ) → length l ≡ n → take n (written l p) ≡ l
+unfolding written
+written-front l p n e = take-at l (drop (length l) p) n e
+
+-- the path that is given is that of the outcome
+pub path-front : {Arc : ℕ → ℕ → ℤ → Type 0} {m a : ℕ} {q : Question} {b e : Buffers} {r : Answer} {d : ℤ} (o : Outcome Arc m a q b e r) → r ≡ answerOf 0 d (length (o .path)) → pathIn e r ≡ o .path
+path-front {m = m} {b = b} {r = r} o p = ap (λ (x : Buffers). take (r .length) (x .path)) (o .leaves) ∙ written-front (o .path) (filled m noneU32 (b .path)) (r .length) (sym (ap (λ (x : Answer). x .length) p))
+
+module _ {g : Net ℤ} {q : Question} {b : Buffers} where
+  module _ {e : Buffers} {r : Answer} (w : Fine g q b) (o : Outcome (ArcOf g) (g .bound) (sizeOf g) q b e r) where
+    -- a modest heuristic is admissible
+    admissible : Modest g q → Admissible (ArcOf g) (λ v. getD (q .guess) v (pos 0)) (q .target)
+    admissible a = record { at-target = a .at-target; under = λ v t k. a .under v (starts-has g (λ u z c y. arc-has g (w .inside) u z c y .0) k (w .target)) t k }
+
+    -- of an outcome with a path
+    gives : 0 < r .length → Given g q r (pathIn e r)
+    gives h = go (o .says)
+      where
+        go : Says (ArcOf g) q (o .end) r (o .path) → Given g q r (pathIn e r)
+        go (bad z p i) = absurd (omega (arith, h, ap (λ (x : Answer). x .length) p))
+        go (unreached z n p i) = absurd (omega (arith, h, ap (λ (x : Answer). x .length) p))
+        go (reached z d n c p i) =
+            let is : pathIn e r ≡ reverse (passed c) = path-front o p ∙ i in
+            let turned : reverse (pathIn e r) ≡ passed c = ap reverse is ∙ reverse-reverse (passed c) in
+            let cost : d ≡ r .cost = sym (ap (λ (x : Answer). x .cost) p) in
+            let y = answered q (o .ends) in
+            record {
+              path = subst (Path (ArcOf g) (q .source) (q .target)) (sym is) (chain-path c);
+              distinct = subst NoDup (sym is) (distinct-back (passed c) (chain-distinct c));
+              few = omega (arith, ap length is, length-reverse (passed c), passed-length c, chain-few g q w (o .ends) d n c);
+              walk = subst (Walk (ArcOf g) (q .source) (q .target)) cost (y .walk z d n);
+              low = λ t k. subst (λ (x : ℤ). t ≤ℤ x) cost (y .never-above z d n c t (subst (λ (l : List ℕ). Cheapest (ArcOf g) l t) turned k));
+              least = λ a. subst (Least (ArcOf g) (q .source) (q .target)) cost (y .least z (admissible a) d n);
+              total = λ a t k. y .path-total z (admissible a) d n c t (subst (λ (l : List ℕ). Cheapest (ArcOf g) l t) turned k) ∙ cost;
+            }
+
+  -- of every answer with a path
+  pub given : {e : Buffers} {r : Answer} → Promise g q b e r → 0 < r .length → Given g q r (pathIn e r)
+  given (short p e f) h = absurd (omega (arith, h, ap (λ (x : Answer). x .length) p))
+  given (outside p e i f) h = absurd (omega (arith, h, ap (λ (x : Answer). x .length) p))
+  given (noSource p e i s f) h = absurd (omega (arith, h, ap (λ (x : Answer). x .length) p))
+  given (noTarget p e i s t f) h = absurd (omega (arith, h, ap (λ (x : Answer). x .length) p))
+  given (farGuess p e i s t k f) h = absurd (omega (arith, h, ap (λ (x : Answer). x .length) p))
+  given (ran w o) h = gives w o h
+
+-- ---- no path
+module _ {g : Net ℤ} {q : Question} {b : Buffers} where
+  -- without a refusal: no path exactly where no walk leads to the target
+  pub none-exactly : {e : Buffers} {r : Answer} → Promise g q b e r → r .number ≡ 0 → (r .length ≡ 0) ↔ ((t : ℤ) → Walk (ArcOf g) (q .source) (q .target) t → ⊥)
+  none-exactly (short p e f) z = absurd (omega (arith, z, ap (λ (x : Answer). x .number) p))
+  none-exactly (outside p e i f) z = absurd (omega (arith, z, ap (λ (x : Answer). x .number) p))
+  none-exactly (noSource p e i s f) z = absurd (omega (arith, z, ap (λ (x : Answer). x .number) p))
+  none-exactly (noTarget p e i s t f) z = absurd (omega (arith, z, ap (λ (x : Answer). x .number) p))
+  none-exactly (farGuess p e i s t h f) z = absurd (omega (arith, z, ap (λ (x : Answer). x .number) p))
+  none-exactly {e} {r} (ran w o) z = (λ k. forth k (o .says), λ f. back f (o .says))
+    where
+      forth : {l : List ℕ} → r .length ≡ 0 → Says (ArcOf g) q (o .end) r l → (t : ℤ) → Walk (ArcOf g) (q .source) (q .target) t → ⊥
+      forth k (bad y p i) = absurd (omega (arith, z, ap (λ (x : Answer). x .number) p))
+      forth k (unreached y n p i) = answered q (o .ends) .unreached y n
+      forth k (reached y d n c p i) = absurd (omega (arith, k, ap (λ (x : Answer). x .length) p, ap length i, length-reverse (passed c), passed-length c))
+
+      back : {l : List ℕ} → ((t : ℤ) → Walk (ArcOf g) (q .source) (q .target) t → ⊥) → Says (ArcOf g) q (o .end) r l → r .length ≡ 0
+      back f (bad y p i) = ap (λ (x : Answer). x .length) p
+      back f (unreached y n p i) = ap (λ (x : Answer). x .length) p
+      back f (reached y d n c p i) = absurd (f d (answered q (o .ends) .walk y d n))
+
+-- ---- from the source to itself
+-- at the start the source alone is pending
+first-held : (q : Question) (u : ℕ) (d : ℤ) (p : Option ℕ) → begin (searchOf q) u ≡ held d p true → u ≡ q .source
+unfolding begin
+first-held q u d p e = elim (upd-cases (λ v. out) (q .source) (held (pos 0) none true) u (held d p true) e) [ inl i ↦ i .0 | inr i ↦ absurd (not-out (i .1)) ]
+
+-- it has the distance 0
+first-dist : (q : Question) → begin (searchOf q) (q .source) ≡ held (pos 0) none true
+unfolding begin
+first-dist q = upd-here (λ v. out) (q .source) (held (pos 0) none true)
+
+-- so the search ends with the first take
+ends-first : {Arc : ℕ → ℕ → ℤ → Type 0} (q : Question) → q .target ≡ q .source → {s : ℕ → Cell ℤ} {n : ℕ} {x : End ℤ} → s ≡ begin (searchOf q) → Ends (searchOf q) Arc s n x → x ≡ doneAt s (suc n)
+ends-first q e k (empty f) = absurd (f (q .source) (pos 0) none (ap (λ (z : ℕ → Cell ℤ). z (q .source)) k ∙ first-dist q))
+ends-first q e k (found u d p t i) = refl
+ends-first q e k (wrong u d p t i v c a y) = absurd (clash (eq-eqb u (q .target) (first-held q u d p (sym (ap (λ (z : ℕ → Cell ℤ). z u) k) ∙ t .held) ∙ sym e)) i)
+ends-first q e k (more w r) = absurd (clash (eq-eqb (w .u) (q .target) (first-held q (w .u) (w .d) (w .p) (sym (ap (λ (z : ℕ → Cell ℤ). z (w .u)) k) ∙ w .taken .held) ∙ sym e)) (w .passed))
+
+module _ {g : Net ℤ} {q : Question} {b : Buffers} where
+  -- cost 0, and the source alone
+  pub own-place : {e : Buffers} {r : Answer} → Promise g q b e r → Fine g q b → q .target ≡ q .source → (r ≡ answerOf 0 (pos 0) 1) × (pathIn e r ≡ q .source ∷ [])
+  own-place (short p e f) w k = absurd (clash (w .enough) e)
+  own-place (outside p e i f) w k = absurd (clash (w .inside) i)
+  own-place (noSource p e i s f) w k = absurd (clash (w .source) s)
+  own-place (noTarget p e i s t f) w k = absurd (clash (w .target) t)
+  own-place (farGuess p e i s t h f) w k = absurd (clash (w .fair) h)
+  own-place {e} {r} (ran v o) w k = go (o .says)
+    where
+      x : o .end ≡ doneAt (begin (searchOf q)) 1
+      x = ends-first q k refl (o .ends)
+
+      at : o .end .dist (q .target) ≡ some (pos 0)
+      at = ap (λ (y : End ℤ). y .dist (q .target)) x ∙ ap distOf (ap (begin (searchOf q)) k ∙ first-dist q)
+
+      go : Says (ArcOf g) q (o .end) r (o .path) → (r ≡ answerOf 0 (pos 0) 1) × (pathIn e r ≡ q .source ∷ [])
+      go (bad z p i) = absurd (let y : _≡_ {A = ℕ} 6 0 = sym z ∙ ap (λ (y : End ℤ). y .number) x in omega (arith, y))
+      go (unreached z n p i) = absurd (let y : none ≡ some (pos 0) = sym n ∙ at in let j : _≡_ {A = ℕ} 0 1 = cc in omega arith)
+      go (reached z d n c p i) =
+          let y : some d ≡ some (pos 0) = sym n ∙ at in
+          let cost : d ≡ pos 0 = cc in
+          let l : o .path ≡ q .source ∷ [] = i ∙ (ap reverse (passed-source c k) ∙ ap (λ (v : ℕ). v ∷ []) k) in (
+            p ∙ (λ j. answerOf 0 (cost j) (length (l j))),
+            path-front o p ∙ l,
+          )

@@ -1,0 +1,222 @@
+-- The refusals: what the tests of the code say in their order, what a refusal leaves, and what holds where there is none.
+-- Assumes nothing.
+use mathlib.Core.Path.{_≡_, refl, sym, ap, _∙_, subst}
+use mathlib.Core.Bool.{Bool, true, false, _&&_}
+use mathlib.Core.List.{List}
+use Prim.Native.Nat.{ℕ, zero, suc, _+_, _-_, _≤_, _<_, _^_}
+use native.Mathlib.Decide.{ℕ-discrete}
+use native.Mathlib.Numerals.{add-one}
+use native.Mathlib.Omega.{arith}
+use borrow.Author.Tests.{leb-true, le-leb}
+use lib.Dec.{leb}
+use lib.IntN.{ℤ, pos, negsuc}
+use lib.Signed.{ltZ, leZ}
+use lib.ListN.{length, getD}
+use Rattle.whole.specs.Zed.{zed, lt-yes, lt-no, le-yes, le-no}
+use Rattle.whole.proofs.Cases.{clash, and-left, and-right, both-of}
+use Rattle.net.specs.Net.{Net, wholeNet, insideNet, has, sizeOf}
+use Rattle.rows.specs.Scratch.{hasRoom}
+use Rattle.rows.specs.Kept.{Needs}
+use Rattle.rows.proofs.Kept.{has-needs}
+use Rattle.search.specs.Search.{Memory, Fair}
+use Rattle.search.specs.Runs.{Roomy}
+use Rattle.a_star.specs.Promise.{Question, without, Buffers, hasMemory, longEnough, enough, isFair, fairAt, fairBelow, fairGuess, Fine, Promise, short, outside, noSource, noTarget, farGuess}
+use Rattle.a_star.specs.Parts.{questionNo, refusalNo}
+
+-- ---- the heuristic
+-- what the tests of one heuristic say
+pub too-low : (z : ℤ) → ltZ z (negsuc (2 ^ 42 - 1)) ≡ true → false ≡ isFair z
+unfolding isFair
+too-low z e = go (leZ (negsuc (2 ^ 42 - 1)) z) refl
+  where
+    go : (b : Bool) → leZ (negsuc (2 ^ 42 - 1)) z ≡ b → false ≡ (leZ (negsuc (2 ^ 42 - 1)) z && leZ z (pos (2 ^ 42)))
+    go true p = absurd (omega (arith, lt-yes z (negsuc (2 ^ 42 - 1)) e, le-yes (negsuc (2 ^ 42 - 1)) z p))
+    go false p = rw p
+
+-- where the first does not refuse, the second decides
+pub not-low : (z : ℤ) → ltZ z (negsuc (2 ^ 42 - 1)) ≡ false → leZ z (pos (2 ^ 42)) ≡ isFair z
+unfolding isFair
+not-low z e = go (leZ (negsuc (2 ^ 42 - 1)) z) refl
+  where
+    go : (b : Bool) → leZ (negsuc (2 ^ 42 - 1)) z ≡ b → leZ z (pos (2 ^ 42)) ≡ (leZ (negsuc (2 ^ 42 - 1)) z && leZ z (pos (2 ^ 42)))
+    go true p = rw p
+    go false p = absurd (omega (arith, lt-no z (negsuc (2 ^ 42 - 1)) e, le-no (negsuc (2 ^ 42 - 1)) z p))
+
+-- a heuristic within the limits may be added
+pub fair-of : (h : List ℤ) (v : ℕ) → isFair (getD h v (pos 0)) ≡ true → Fair h v
+unfolding isFair
+fair-of h v e =
+    let z : ℤ = getD h v (pos 0) in
+    let p = le-yes (negsuc (2 ^ 42 - 1)) z (and-left _ _ e) in
+    let q = le-yes z (pos (2 ^ 42)) (and-right (leZ (negsuc (2 ^ 42 - 1)) z) _ e) in
+    record { low = omega (arith, zed, p); high = omega (arith, zed, q) }
+
+module _ (f : ℕ → Bool) (h : List ℤ) where
+  -- what the test of an index is
+  pub fair-absent : (k : ℕ) → f k ≡ false → true ≡ fairAt f h k
+  unfolding fairAt
+  fair-absent k e = rw e
+
+  -- an index that f holds for
+  pub fair-present : (k : ℕ) → f k ≡ true → isFair (getD h k (pos 0)) ≡ fairAt f h k
+  unfolding fairAt
+  fair-present k e = rw e
+
+  -- one index more
+  pub fair-more : (k : ℕ) → fairBelow f h k ≡ true → fairAt f h k ≡ true → fairBelow f h (k + 1) ≡ true
+  fair-more k e g = subst (λ (j : ℕ). fairBelow f h j ≡ true) (sym (add-one k)) (both-of (fairBelow f h k) (fairAt f h k) e g)
+
+  -- all below m: each of them
+  pub fair-each : (m k : ℕ) → fairBelow f h m ≡ true → k < m → fairAt f h k ≡ true
+  fair-each zero k e l = absurd (omega arith)
+  fair-each (suc m) k e l = go (ℕ-discrete k m) (fair-each m k (and-left (fairBelow f h m) (fairAt f h m) e))
+    where
+      go : Dec (k ≡ m) → (k < m → fairAt f h k ≡ true) → fairAt f h k ≡ true
+      go (yes p) r = ap (fairAt f h) p ∙ and-right (fairBelow f h m) (fairAt f h m) e
+      go (no p) r = r (omega (arith, p))
+
+  -- one that is not: not all
+  pub fair-stop : (m k : ℕ) → k < m → fairAt f h k ≡ false → false ≡ fairBelow f h m
+  fair-stop m k l e = go (fairBelow f h m) refl
+    where
+      go : (b : Bool) → fairBelow f h m ≡ b → false ≡ fairBelow f h m
+      go true p = absurd (clash (fair-each m k p l) e)
+      go false p = sym p
+
+  -- each index that f holds for
+  pub fair-where : (m k : ℕ) → fairBelow f h m ≡ true → k < m → f k ≡ true → isFair (getD h k (pos 0)) ≡ true
+  fair-where m k e l p = fair-present k p ∙ fair-each m k e l
+
+-- ---- the question
+module _ (g : Net ℤ) (q : Question) where
+  -- 2
+  pub is-outside : insideNet g ≡ false → 2 ≡ questionNo g q
+  unfolding questionNo
+  is-outside e = rw e
+
+  module _ (i : insideNet g ≡ true) where
+    -- 3
+    pub no-source : has g (q .source) ≡ false → 3 ≡ questionNo g q
+    unfolding questionNo
+    no-source e = rw (i, e)
+
+    module _ (s : has g (q .source) ≡ true) where
+      -- 4
+      pub no-target : has g (q .target) ≡ false → 4 ≡ questionNo g q
+      unfolding questionNo
+      no-target e = rw (i, s, e)
+
+      module _ (t : has g (q .target) ≡ true) where
+        -- 5
+        pub too-far : fairGuess g (q .guess) ≡ false → 5 ≡ questionNo g q
+        unfolding questionNo
+        too-far e = rw (i, s, t, e)
+
+        -- none of them
+        pub all-good : fairGuess g (q .guess) ≡ true → 0 ≡ questionNo g q
+        unfolding questionNo
+        all-good e = rw (i, s, t, e)
+
+-- ---- the lengths
+-- each slice is long enough
+pub record Lengths (m a : ℕ) (h : List ℤ) (b : Buffers) : Type 0 where
+  pub guess : m ≤ length h
+  pub path : m ≤ length (b .path)
+  pub rows : Needs m a (b .scratch .rows)
+  pub memory : Roomy m (b .scratch .memory)
+
+-- the last test of the lists of the search
+pub memory-last : (m : ℕ) (M : Memory) → m ≤ length (M .dist) → m ≤ length (M .preds) → m ≤ length (M .heap) → m ≤ length (M .places) → leb m (length (M .keys)) ≡ hasMemory m M
+unfolding hasMemory
+memory-last m M d p h i = rw (le-leb m (length (M .dist)) d, le-leb m (length (M .preds)) p, le-leb m (length (M .heap)) h, le-leb m (length (M .places)) i)
+
+-- the lists of the search are long enough
+has-memory : (m : ℕ) (M : Memory) → hasMemory m M ≡ true → Roomy m M
+unfolding hasMemory
+has-memory m M e =
+    let e1 = and-right (leb m (length (M .dist))) _ e in
+    let e2 = and-right (leb m (length (M .preds))) _ e1 in
+    let e3 = and-right (leb m (length (M .heap))) _ e2 in
+    record {
+      dist = leb-true _ _ (and-left (leb m (length (M .dist))) _ e);
+      preds = leb-true _ _ (and-left (leb m (length (M .preds))) _ e1);
+      heap = leb-true _ _ (and-left (leb m (length (M .heap))) _ e2);
+      places = leb-true _ _ (and-left (leb m (length (M .places))) _ e3);
+      keys = leb-true _ _ (and-right (leb m (length (M .places))) _ e3);
+    }
+
+-- so is each slice
+pub lengths : (m a : ℕ) (h : List ℤ) (b : Buffers) → longEnough m a h b ≡ true → Lengths m a h b
+unfolding longEnough
+lengths m a h b e =
+    let e1 = and-right (leb m (length h)) _ e in
+    let e2 = and-right (leb m (length (b .path))) _ e1 in
+    record {
+      guess = leb-true _ _ (and-left (leb m (length h)) _ e);
+      path = leb-true _ _ (and-left (leb m (length (b .path))) _ e1);
+      rows = has-needs m a (b .scratch .rows) (and-left (hasRoom m a (b .scratch .rows)) _ e2);
+      memory = has-memory m (b .scratch .memory) (and-right (hasRoom m a (b .scratch .rows)) _ e2);
+    }
+
+-- and the heuristic
+pub guess-long : (m a : ℕ) (h : List ℤ) (b : Buffers) → longEnough m a h b ≡ true → m ≤ length h
+guess-long m a h b e = lengths m a h b e .guess
+
+-- ---- all of them in order
+module _ (g : Net ℤ) (q : Question) (b : Buffers) where
+  -- 1, by the map
+  pub over-limits : wholeNet g ≡ false → 1 ≡ refusalNo g q b
+  unfolding refusalNo
+  over-limits e = rw e
+
+  -- the test of the lengths, which said r
+  module _ (e : wholeNet g ≡ true) {a : ℕ} {r : Bool} (said : r ≡ longEnough (g .bound) a (q .guess) b) (room : a ≡ sizeOf g) where
+    -- what it said, with a by the map
+    gave : longEnough (g .bound) (sizeOf g) (q .guess) b ≡ r
+    gave = ap (λ (x : ℕ). longEnough (g .bound) x (q .guess) b) (sym room) ∙ sym said
+
+    -- 1, by a slice
+    pub too-short : r ≡ false → 1 ≡ refusalNo g q b
+    unfolding refusalNo
+    too-short f = rw (e, gave ∙ f)
+
+    -- then the question decides
+    pub asked : {k : ℕ} → r ≡ true → k ≡ questionNo g q → k ≡ refusalNo g q b
+    unfolding refusalNo
+    asked f p = p ∙ rw (e, gave ∙ f)
+
+  -- a refusal is what the promise says
+  pub refused : (k : ℕ) → k ≡ refusalNo g q b → (k ≡ 0 → ⊥) → Promise g q b b (without k)
+  unfolding refusalNo questionNo
+  refused k p f = go (enough g q b) (insideNet g) (has g (q .source)) (has g (q .target)) (fairGuess g (q .guess)) refl refl refl refl refl
+    where
+      go : (x y s t z : Bool) → enough g q b ≡ x → insideNet g ≡ y → has g (q .source) ≡ s → has g (q .target) ≡ t → fairGuess g (q .guess) ≡ z → Promise g q b b (without k)
+      go false y s t z e i u v w = short (ap without (p ∙ rw e)) e refl
+      go true false s t z e i u v w = outside (ap without (p ∙ rw (e, i))) e i refl
+      go true true false t z e i u v w = noSource (ap without (p ∙ rw (e, i, u))) e i u refl
+      go true true true false z e i u v w = noTarget (ap without (p ∙ rw (e, i, u, v))) e i u v refl
+      go true true true true false e i u v w = farGuess (ap without (p ∙ rw (e, i, u, v, w))) e i u v w refl
+      go true true true true true e i u v w = absurd (f (p ∙ rw (e, i, u, v, w)))
+
+  -- where there is none all is fine
+  pub passed : refusalNo g q b ≡ 0 → Fine g q b
+  unfolding refusalNo questionNo
+  passed p = go (enough g q b) (insideNet g) (has g (q .source)) (has g (q .target)) (fairGuess g (q .guess)) refl refl refl refl refl
+    where
+      go : (x y s t z : Bool) → enough g q b ≡ x → insideNet g ≡ y → has g (q .source) ≡ s → has g (q .target) ≡ t → fairGuess g (q .guess) ≡ z → Fine g q b
+      go false y s t z e i u v w = absurd (let h : refusalNo g q b ≡ 1 = rw e in omega (arith, p, h))
+      go true false s t z e i u v w = absurd (let h : refusalNo g q b ≡ 2 = rw (e, i) in omega (arith, p, h))
+      go true true false t z e i u v w = absurd (let h : refusalNo g q b ≡ 3 = rw (e, i, u) in omega (arith, p, h))
+      go true true true false z e i u v w = absurd (let h : refusalNo g q b ≡ 4 = rw (e, i, u, v) in omega (arith, p, h))
+      go true true true true false e i u v w = absurd (let h : refusalNo g q b ≡ 5 = rw (e, i, u, v, w) in omega (arith, p, h))
+      go true true true true true e i u v w = record { enough = e; inside = i; source = u; target = v; fair = w }
+
+-- what a fine question has
+module _ {g : Net ℤ} {q : Question} {b : Buffers} (w : Fine g q b) where
+  -- the map keeps the limits
+  pub fine-whole : wholeNet g ≡ true
+  fine-whole = and-left (wholeNet g) _ (w .enough)
+
+  -- and each slice is long enough
+  pub fine-long : Lengths (g .bound) (sizeOf g) (q .guess) b
+  fine-long = lengths (g .bound) (sizeOf g) (q .guess) b (and-right (wholeNet g) _ (w .enough))

@@ -1,0 +1,24 @@
+-- `a_star::wipe` meets its contract.
+-- Assumes nothing.
+use borrow.Author.Needs.{needs}
+use Rattle.a_star.proofs.wipe.Statement.{statement}
+use Rattle.a_star.proofs.wipe.Tie as tie
+
+returns : tie.Need-returns
+returns c = λ i. record { rows = c .before .before .before .before .before .before .before .before .before .before .before .before .before .before .before .before .before .before .before .wipe .ensures i; memory = c .before .before .before .before .before .before .before .before .wipe-memory .ensures i }
+
+pub wipe-spec : {M : Type 1} → statement M
+wipe-spec =
+    tie.close
+    (tie.spec
+    (λ c κs. search needs)
+    (λ c κs. search needs)
+    (λ c. search needs)
+    (λ c. search needs)
+    (λ c. search needs)
+    (λ c. search needs)
+    (λ c. search needs)
+    (λ c. search needs)
+    (λ c. search needs)
+    (λ c. search needs)
+    returns)

@@ -1,0 +1,156 @@
+-- What `a_star` promises.
+-- Assumes nothing.
+use mathlib.Core.Path.{_≡_}
+use mathlib.Core.Bool.{Bool, true, false, not, _&&_, _||_}
+use mathlib.Core.List.{List, [], _++_, reverse}
+use mathlib.Core.Option.{none, some}
+use Prim.Native.Nat.{ℕ, zero, suc, _-_, _^_}
+use lib.Dec.{leb}
+use lib.IntN.{ℤ, pos, negsuc}
+use lib.Signed.{leZ}
+use lib.ListN.{length, getD, drop}
+use Rattle.clean.specs.Fill.{filled}
+use Rattle.clean.specs.None.{noneI64, noneU32}
+use Rattle.walks.specs.Chain.{Chain, passed}
+use Rattle.pending.specs.Setting.{Setting, End}
+use Rattle.pending.specs.OnePlace.{begin, Ends}
+use Rattle.pending.specs.Ints.{aStar}
+use Rattle.net.specs.Net.{Net, ArcOf, wholeNet, insideNet, has, sizeOf}
+use Rattle.rows.specs.Rows.{Lists, listsOf}
+use Rattle.rows.specs.Scratch.{hasRoom, wiped}
+use Rattle.search.specs.Search.{Memory, memoryOf}
+
+-- the question: where from, where to, and a heuristic for each index
+pub record Question : Type 0 where
+  pub source : ℕ
+  pub target : ℕ
+  pub guess : List ℤ
+
+-- the same, of its parts
+abbrev pub questionOf : ℕ → ℕ → List ℤ → Question
+questionOf s t h = record { source = s; target = t; guess = h }
+
+-- the answer: the number, the cost, and how many indices the path has
+pub record Answer : Type 0 where
+  pub number : ℕ
+  pub cost : ℤ
+  pub length : ℕ
+
+-- the same, of its parts
+abbrev pub answerOf : ℕ → ℤ → ℕ → Answer
+answerOf k d n = record { number = k; cost = d; length = n }
+
+-- without a path: cost none, length 0
+abbrev pub without : ℕ → Answer
+without k = answerOf k noneI64 0
+
+-- the lent scratch: the neighbour list and the lists that the search writes
+pub record Scratch : Type 0 where
+  pub rows : Lists ℤ
+  pub memory : Memory
+
+-- the lent buffers: the path and the scratch
+pub record Buffers : Type 0 where
+  pub path : List ℕ
+  pub scratch : Scratch
+
+-- the scratch of the lent slices
+abbrev pub scratchOf : List ℕ → List ℕ → List ℤ → List ℤ → List ℕ → List ℕ → List ℕ → List ℤ → Scratch
+scratchOf o h w d p q i k = record { rows = listsOf o h w; memory = memoryOf d p q i k }
+
+-- all of them, of the lent slices
+abbrev pub buffersOf : List ℕ → List ℕ → List ℕ → List ℤ → List ℤ → List ℕ → List ℕ → List ℕ → List ℤ → Buffers
+buffersOf l o h w d p q i k = record { path = l; scratch = scratchOf o h w d p q i k }
+
+-- ---- the refusals
+-- do the lists of the search have m entries each?
+unfoldable pub hasMemory : ℕ → Memory → Bool
+hasMemory m M = leb m (length (M .dist)) && (leb m (length (M .preds)) && (leb m (length (M .heap)) && (leb m (length (M .places)) && leb m (length (M .keys)))))
+
+-- is each slice as long as its part used? Of scratch that is 6m + 1 + 2a entries
+unfoldable pub longEnough : ℕ → ℕ → List ℤ → Buffers → Bool
+longEnough m a h b = leb m (length h) && (leb m (length (b .path)) && (hasRoom m a (b .scratch .rows) && hasMemory m (b .scratch .memory)))
+
+-- nothing that refusal 1 names
+abbrev pub enough : Net ℤ → Question → Buffers → Bool
+enough g q b = wholeNet g && longEnough (g .bound) (sizeOf g) (q .guess) b
+
+-- is a heuristic within -2^42 ..= 2^42?
+unfoldable pub isFair : ℤ → Bool
+isFair z = leZ (negsuc (2 ^ 42 - 1)) z && leZ z (pos (2 ^ 42))
+
+-- is it at k, if f holds there? Other entries are not looked at
+unfoldable pub fairAt : (ℕ → Bool) → List ℤ → ℕ → Bool
+fairAt f h k = not (f k) || isFair (getD h k (pos 0))
+
+-- is it at each index below k?
+abbrev pub fairBelow : (ℕ → Bool) → List ℤ → ℕ → Bool
+fairBelow f h zero = true
+fairBelow f h (suc k) = fairBelow f h k && fairAt f h k
+
+-- nothing that refusal 5 names
+abbrev pub fairGuess : Net ℤ → List ℤ → Bool
+fairGuess g h = fairBelow (has g) h (g .bound)
+
+-- nothing that refusals 1 to 5 name
+pub record Fine (g : Net ℤ) (q : Question) (b : Buffers) : Type 0 where
+  pub enough : enough g q b ≡ true
+  pub inside : insideNet g ≡ true
+  pub source : has g (q .source) ≡ true
+  pub target : has g (q .target) ≡ true
+  pub fair : fairGuess g (q .guess) ≡ true
+
+-- ---- what the call leaves
+-- a path at the front of a slice, the rest as it was
+unfoldable pub written : List ℕ → List ℕ → List ℕ
+written l p = l ++ drop (length l) p
+
+-- the needed part of each scratch slice is all zero, and the rest as before
+abbrev pub wipedMemory : ℕ → Memory → Memory
+wipedMemory m M = memoryOf (filled m (pos 0) (M .dist)) (filled m 0 (M .preds)) (filled m 0 (M .heap)) (filled m 0 (M .places)) (filled m (pos 0) (M .keys))
+
+-- so of all scratch
+abbrev pub wipedAll : ℕ → ℕ → Scratch → Scratch
+wipedAll m a s = record { rows = wiped m a (pos 0) (s .rows); memory = wipedMemory m (s .memory) }
+
+-- a path from the first entry on and none after its end up to m; the scratch wiped
+abbrev pub left : ℕ → ℕ → Buffers → List ℕ → Buffers
+left m a b l = record { path = written l (filled m noneU32 (b .path)); scratch = wipedAll m a (b .scratch) }
+
+-- ---- the answer
+-- the pending bag's search for the question: the heuristic of an index is what its entry says
+abbrev pub searchOf : Question → Setting ℤ ℤ
+searchOf q = aStar (λ v. getD (q .guess) v (pos 0)) (q .source) (q .target)
+
+-- what the search's end x says: the answer r, and the path l by the predecessors, its first index first
+pub data Says (Arc : ℕ → ℕ → ℤ → Type 0) (q : Question) (x : End ℤ) (r : Answer) (l : List ℕ) : Type 0 where
+  -- 6: a cost below zero on an arc looked at; blank
+  bad : x .number ≡ 6 → r ≡ without 6 → l ≡ [] → Says Arc q x r l
+  -- 0: the target has no distance; blank
+  unreached : x .number ≡ 0 → x .dist (q .target) ≡ none → r ≡ without 0 → l ≡ [] → Says Arc q x r l
+  -- 0: the cost is the target's distance, and the path goes back from the target to the source
+  reached : x .number ≡ 0 → (d : ℤ) → x .dist (q .target) ≡ some d → (c : Chain Arc (q .source) (x .dist) (x .pred) (q .target)) → r ≡ answerOf 0 d (length l) → l ≡ reverse (passed c) → Says Arc q x r l
+
+-- the search was run: what it ends in, what that says, and what is left in the buffers
+pub record Outcome (Arc : ℕ → ℕ → ℤ → Type 0) (m a : ℕ) (q : Question) (b e : Buffers) (r : Answer) : Type 0 where
+  pub end : End ℤ
+  pub ends : Ends (searchOf q) Arc (begin (searchOf q)) 0 end
+  pub path : List ℕ
+  pub says : Says Arc q end r path
+  pub leaves : e ≡ left m a b path
+
+-- the answer r and the buffers e that the call leaves, of the map g, the question q and the buffers b that it was lent. Of leastness it says nothing: with the arcs
+-- 0→1 5, 0→2 6, 2→1 −3, heuristic 0 and target 1 it gives 0 with cost 5, though 3 is least, since the arc below zero is not looked at
+pub data Promise (g : Net ℤ) (q : Question) (b e : Buffers) (r : Answer) : Type 0 where
+  -- 1: a limit is passed, or a lent slice is shorter than the part used; untouched
+  short : r ≡ without 1 → enough g q b ≡ false → e ≡ b → Promise g q b e r
+  -- 2: a link names an index at or above m, or absent; untouched
+  outside : r ≡ without 2 → enough g q b ≡ true → insideNet g ≡ false → e ≡ b → Promise g q b e r
+  -- 3: the source is absent or at or above m; untouched
+  noSource : r ≡ without 3 → enough g q b ≡ true → insideNet g ≡ true → has g (q .source) ≡ false → e ≡ b → Promise g q b e r
+  -- 4: the target is; untouched
+  noTarget : r ≡ without 4 → enough g q b ≡ true → insideNet g ≡ true → has g (q .source) ≡ true → has g (q .target) ≡ false → e ≡ b → Promise g q b e r
+  -- 5: some index that the map has has a heuristic outside -2^42 ..= 2^42; untouched
+  farGuess : r ≡ without 5 → enough g q b ≡ true → insideNet g ≡ true → has g (q .source) ≡ true → has g (q .target) ≡ true → fairGuess g (q .guess) ≡ false → e ≡ b → Promise g q b e r
+  -- 0 or 6: as the search ends
+  ran : Fine g q b → Outcome (ArcOf g) (g .bound) (sizeOf g) q b e r → Promise g q b e r

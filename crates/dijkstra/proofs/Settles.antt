@@ -1,0 +1,180 @@
+-- The promise of `dijkstra` settles the answer and each buffer, goes by the arcs alone, and gives each number exactly when its condition holds.
+-- Assumes nothing.
+use mathlib.Core.Path.{_≡_, refl, sym, ap, _∙_, subst}
+use mathlib.Core.Bool.{Bool, true, false}
+use mathlib.Core.Logic.{_⊎_, inl, inr, _↔_}
+use Prim.Native.Nat.{ℕ, _+_, _*_, _≤_, _<_, _^_}
+use native.Mathlib.Omega.{arith}
+use lib.IntN.{ℤ, pos}
+use lib.Signed.{ltZ, _≤ℤ_, _<ℤ_}
+use lib.ListN.{length}
+use Rattle.whole.specs.Zed.{_⊕_, P, N, zed, sum, lt-yes, lt-no}
+use Rattle.whole.proofs.Cases.{clash, other}
+use Rattle.clean.specs.Fill.{Settled}
+use Rattle.clean.specs.None.{noneI64}
+use Rattle.clean.proofs.Filled.{settled-one, settled-over}
+use Rattle.walks.specs.Walk.{Walk, stay, step, Least, NoNeg, Entry}
+use Rattle.walks.proofs.Walk.{arc, join}
+use Rattle.walks.proofs.Cheap.{least-within}
+use Rattle.walks.proofs.Over.{entry-one, entry-over}
+use Rattle.net.specs.Net.{Net, ArcOf, insideNet, has, nodesOf, sizeOf, SameNet}
+use Rattle.net.proofs.Bounds.{Whole, width-small}
+use Rattle.net.proofs.Nodes.{present-in}
+use Rattle.net.proofs.Same.{arc-has, arc-turned, same-inside, same-size}
+use Rattle.rows.specs.Kept.{Kept}
+use Rattle.rows.proofs.Kept.{kept-none, kept-filled}
+use Rattle.pending.specs.Reach.{BadInReach}
+use Rattle.search.proofs.Runs.{bad-over}
+use Rattle.dijkstra.specs.Promise.{Buffers, enough, clear, blank, Promise, short, outside, unknown, bad, done}
+use Rattle.dijkstra.proofs.Refusals.{enough-passed}
+use Rattle.dijkstra.proofs.Answers.{KeptScratch, scratch-same, scratch-wiped}
+
+-- ---- two answers that the promise allows are equal
+module _ {g : Net ℤ} {s : ℕ} {b : Buffers} where
+  -- the number and every buffer
+  pub promise-one : {e e′ : Buffers} {no no′ : ℕ} → Promise g s b e no → Promise g s b e′ no′ → (no ≡ no′) × (e ≡ e′)
+  promise-one (short n p q) (short n′ p′ q′) = (n ∙ sym n′, q ∙ sym q′)
+  promise-one (short n p q) (outside n′ p′ i′ q′) = absurd (clash p′ p)
+  promise-one (short n p q) (unknown n′ p′ i′ h′ q′) = absurd (clash p′ p)
+  promise-one (short n p q) (bad n′ p′ i′ h′ w′ q′) = absurd (clash p′ p)
+  promise-one (short n p q) (done n′ p′ i′ h′ w′ d′ q′) = absurd (clash p′ p)
+  promise-one (outside n p i q) (short n′ p′ q′) = absurd (clash p p′)
+  promise-one (outside n p i q) (outside n′ p′ i′ q′) = (n ∙ sym n′, q ∙ sym q′)
+  promise-one (outside n p i q) (unknown n′ p′ i′ h′ q′) = absurd (clash i′ i)
+  promise-one (outside n p i q) (bad n′ p′ i′ h′ w′ q′) = absurd (clash i′ i)
+  promise-one (outside n p i q) (done n′ p′ i′ h′ w′ d′ q′) = absurd (clash i′ i)
+  promise-one (unknown n p i h q) (short n′ p′ q′) = absurd (clash p p′)
+  promise-one (unknown n p i h q) (outside n′ p′ i′ q′) = absurd (clash i i′)
+  promise-one (unknown n p i h q) (unknown n′ p′ i′ h′ q′) = (n ∙ sym n′, q ∙ sym q′)
+  promise-one (unknown n p i h q) (bad n′ p′ i′ h′ w′ q′) = absurd (clash h′ h)
+  promise-one (unknown n p i h q) (done n′ p′ i′ h′ w′ d′ q′) = absurd (clash h′ h)
+  promise-one (bad n p i h w q) (short n′ p′ q′) = absurd (clash p p′)
+  promise-one (bad n p i h w q) (outside n′ p′ i′ q′) = absurd (clash i i′)
+  promise-one (bad n p i h w q) (unknown n′ p′ i′ h′ q′) = absurd (clash h h′)
+  promise-one (bad n p i h w q) (bad n′ p′ i′ h′ w′ q′) = (n ∙ sym n′, q ∙ sym q′)
+  promise-one (bad n p i h w q) (done n′ p′ i′ h′ w′ d′ q′) = absurd (w′ w)
+  promise-one (done n p i h w d q) (short n′ p′ q′) = absurd (clash p p′)
+  promise-one (done n p i h w d q) (outside n′ p′ i′ q′) = absurd (clash i i′)
+  promise-one (done n p i h w d q) (unknown n′ p′ i′ h′ q′) = absurd (clash h h′)
+  promise-one (done n p i h w d q) (bad n′ p′ i′ h′ w′ q′) = absurd (w w′)
+  promise-one (done n p i h w d q) (done n′ p′ i′ h′ w′ d′ q′) =
+      let e = settled-one (pos 0) (λ v k x y. entry-one) d d′ in
+      let r = q ∙ sym q′ in
+      (n ∙ sym n′, λ j. record { dist = e j; scratch = r j })
+
+  -- ---- only the part used of each buffer changes
+  pub promise-kept : {e : Buffers} {no : ℕ} → Promise g s b e no → Kept (g .bound) (b .dist) (e .dist) × KeptScratch (g .bound) (sizeOf g) (b .scratch) (e .scratch)
+  promise-kept (short n p q) = rw q (kept-none, scratch-same)
+  promise-kept (outside n p i q) = rw q (kept-none, scratch-same)
+  promise-kept (unknown n p i h q) = rw q (kept-none, scratch-same)
+  promise-kept (bad n p i h w q) = let k = enough-passed g s b p i h in (kept-filled noneI64 (k .dist) (ap (λ (x : Buffers). x .dist) q), scratch-wiped (k .room) (ap (λ (x : Buffers). x .scratch) q))
+  promise-kept (done n p i h w d q) = (record { long = d .long; rest = d .rest }, scratch-wiped (enough-passed g s b p i h .room) q)
+
+  -- ---- each number, exactly when its condition holds
+  module _ {e : Buffers} {no : ℕ} where
+    pub one-exactly : Promise g s b e no → (no ≡ 1) ↔ (enough g b ≡ false)
+    one-exactly (short n p q) = (λ z. p, λ z. n)
+    one-exactly (outside n p i q) = (λ z. other 2 1 n z (λ y. omega arith), λ z. absurd (clash p z))
+    one-exactly (unknown n p i h q) = (λ z. other 3 1 n z (λ y. omega arith), λ z. absurd (clash p z))
+    one-exactly (bad n p i h w q) = (λ z. other 6 1 n z (λ y. omega arith), λ z. absurd (clash p z))
+    one-exactly (done n p i h w d q) = (λ z. other 0 1 n z (λ y. omega arith), λ z. absurd (clash p z))
+
+    pub two-exactly : Promise g s b e no → (no ≡ 2) ↔ ((enough g b ≡ true) × (insideNet g ≡ false))
+    two-exactly (short n p q) = (λ z. other 1 2 n z (λ y. omega arith), λ z. absurd (clash (z .0) p))
+    two-exactly (outside n p i q) = (λ z. (p, i), λ z. n)
+    two-exactly (unknown n p i h q) = (λ z. other 3 2 n z (λ y. omega arith), λ z. absurd (clash i (z .1)))
+    two-exactly (bad n p i h w q) = (λ z. other 6 2 n z (λ y. omega arith), λ z. absurd (clash i (z .1)))
+    two-exactly (done n p i h w d q) = (λ z. other 0 2 n z (λ y. omega arith), λ z. absurd (clash i (z .1)))
+
+    pub three-exactly : Promise g s b e no → (no ≡ 3) ↔ ((enough g b ≡ true) × (insideNet g ≡ true) × (has g s ≡ false))
+    three-exactly (short n p q) = (λ z. other 1 3 n z (λ y. omega arith), λ z. absurd (clash (z .0) p))
+    three-exactly (outside n p i q) = (λ z. other 2 3 n z (λ y. omega arith), λ z. absurd (clash (z .1) i))
+    three-exactly (unknown n p i h q) = (λ z. (p, i, h), λ z. n)
+    three-exactly (bad n p i h w q) = (λ z. other 6 3 n z (λ y. omega arith), λ z. absurd (clash h (z .2)))
+    three-exactly (done n p i h w d q) = (λ z. other 0 3 n z (λ y. omega arith), λ z. absurd (clash h (z .2)))
+
+    pub six-exactly : Promise g s b e no → (no ≡ 6) ↔ ((enough g b ≡ true) × (insideNet g ≡ true) × (has g s ≡ true) × BadInReach (ArcOf g) s)
+    six-exactly (short n p q) = (λ z. other 1 6 n z (λ y. omega arith), λ z. absurd (clash (z .0) p))
+    six-exactly (outside n p i q) = (λ z. other 2 6 n z (λ y. omega arith), λ z. absurd (clash (z .1) i))
+    six-exactly (unknown n p i h q) = (λ z. other 3 6 n z (λ y. omega arith), λ z. absurd (clash (z .2) h))
+    six-exactly (bad n p i h w q) = (λ z. (p, i, h, w), λ z. n)
+    six-exactly (done n p i h w d q) = (λ z. other 0 6 n z (λ y. omega arith), λ z. absurd (w (z .3)))
+
+-- ---- the promise goes by the arcs: maps that no question can tell apart get the same answers
+module _ {g g′ : Net ℤ} (same : SameNet g g′) where
+  over : (u v : ℕ) (c : ℤ) → ArcOf g u v c → ArcOf g′ u v c
+  over u v c = same .arcs u v c .0
+
+  back : (u v : ℕ) (c : ℤ) → ArcOf g′ u v c → ArcOf g u v c
+  back u v c = same .arcs u v c .1
+
+  same-enough : (b : Buffers) → enough g b ≡ enough g′ b
+  same-enough b = rw (same .whole, same-size same, same .bound)
+
+  same-clear : (b : Buffers) → clear g b ≡ clear g′ b
+  same-clear b = rw (same-size same, same .bound)
+
+  same-blank : (b : Buffers) → blank g b ≡ blank g′ b
+  same-blank b = rw (same-size same, same .bound)
+
+  pub promise-arcs : {s : ℕ} {b e : Buffers} {no : ℕ} → Promise g s b e no → Promise g′ s b e no
+  promise-arcs {s} {b} (short n p q) = short n (sym (same-enough b) ∙ p) q
+  promise-arcs {s} {b} (outside n p i q) = outside n (sym (same-enough b) ∙ p) (sym (same-inside same) ∙ i) q
+  promise-arcs {s} {b} (unknown n p i h q) = unknown n (sym (same-enough b) ∙ p) (sym (same-inside same) ∙ i) (sym (same .has s) ∙ h) q
+  promise-arcs {s} {b} (bad n p i h w q) = bad n (sym (same-enough b) ∙ p) (sym (same-inside same) ∙ i) (sym (same .has s) ∙ h) (bad-over over w) (q ∙ same-blank b)
+  promise-arcs {s} {b} {e} (done n p i h w d q) =
+      done n (sym (same-enough b) ∙ p) (sym (same-inside same) ∙ i) (sym (same .has s) ∙ h) (λ x. w (bad-over back x))
+      (subst (λ (m : ℕ). Settled m (Entry (ArcOf g′) s) (b .dist) (e .dist)) (same .bound) (settled-over (λ v k x y. entry-over over back y) d)) (q ∙ same-clear b)
+
+  -- so two calls on such maps, with the same buffers and the same source, answer the same and leave the same
+  pub same-answers : {s : ℕ} {b e e′ : Buffers} {no no′ : ℕ} → Promise g s b e no → Promise g′ s b e′ no′ → (no ≡ no′) × (e ≡ e′)
+  same-answers p q = promise-one (promise-arcs p) q
+
+-- ---- with no arc below zero in reach, no total is below zero
+module _ {Arc : ℕ → ℕ → ℤ → Type 0} {s : ℕ} (clean : BadInReach Arc s → ⊥) where
+  -- the walk's arcs leave indices in reach
+  pub total-up : {u v : ℕ} {a t : ℤ} → Walk Arc s u a → Walk Arc u v t → pos 0 ≤ℤ t
+  total-up r (stay e) = omega (arith, zed, e)
+  total-up {u} {a = a} {t = q} r (step {v = v} {c} {t} x w e) = go (ltZ c (pos 0)) refl (total-up (join {r = a ⊕ c} r (arc x) refl) w)
+    where
+      go : (b : Bool) → ltZ c (pos 0) ≡ b → pos 0 ≤ℤ t → pos 0 ≤ℤ q
+      go true f k = absurd (clean (record { u = u; t = a; v = v; c = c; reach = r; arc-is = x; below = omega (arith, zed, lt-yes c (pos 0) f) }))
+      go false f k = omega (arith, zed, lt-no c (pos 0) f, sum c t)
+
+  pub no-negative : NoNeg Arc s
+  no-negative x a t r w = total-up r w
+
+-- ---- none is never a total, and stands at each absent index
+module _ (g : Net ℤ) (s v : ℕ) (d : ℤ) (inside : insideNet g ≡ true) (source : has g s ≡ true) where
+  -- an absent index has no walk to it
+  pub absent-none : has g v ≡ false → Entry (ArcOf g) s v d → d ≡ noneI64
+  absent-none f (inr p) = p .0
+  absent-none f (inl l) = absurd (clash (end source (l .walk)) f)
+    where
+      end : {u w : ℕ} {t : ℤ} → has g u ≡ true → Walk (ArcOf g) u w t → has g w ≡ true
+      end k (stay e) = k
+      end k (step {u} {v} {c} a w e) = end (arc-has g inside u v c a .1) w
+
+  module _ (clean : BadInReach (ArcOf g) s → ⊥) (l : Least (ArcOf g) s v d) where
+    -- a total is not below zero
+    pub total-not-none : noneI64 <ℤ d
+    total-not-none = let k = total-up clean (stay refl) (l .walk) in omega (arith, zed)
+
+    -- the costs are those of 32 bits, and a least total has fewer than 1,024 arcs
+    pub total-small : Whole g → ((x y : ℕ) (c : ℤ) → ArcOf g x y c → P c + N c ≤ 2 ^ 31) → d <ℤ pos (1024 * 2 ^ 31)
+    total-small whole small =
+        let w = least-within (nodesOf g) (2 ^ 31) (λ x y c a. present-in g y (arc-has g inside x y c a .1)) (present-in g s source) small (no-negative clean) l in
+        let n : ℕ = w .0 in
+        let k : pos 0 ≤ℤ d = total-up clean (stay refl) (l .walk) in
+        let a : P d ≤ n * 2 ^ 31 + N d = w .2 .0 in
+        let few : n < length (nodesOf g) = w .1 in
+        omega (arith, zed, width-small whole)
+
+-- ---- undirected: a link below zero with either end in reach refuses
+pub undirected-bad : (g : Net ℤ) (s u v : ℕ) (t c : ℤ) → g .directed ≡ false → ArcOf g u v c → c <ℤ pos 0 → Walk (ArcOf g) s u t ⊎ Walk (ArcOf g) s v t → BadInReach (ArcOf g) s
+undirected-bad g s u v t c e a h (inl w) = record { u = u; t = t; v = v; c = c; reach = w; arc-is = a; below = h }
+undirected-bad g s u v t c e a h (inr w) = record { u = v; t = t; v = u; c = c; reach = w; arc-is = arc-turned g e u v c a; below = h }
+
+-- ---- the scratch is within what is allowed
+pub scratch-budget : (m a : ℕ) → (m + 1) + a + a + m + m + m + m ≤ 8 * (m + 1) + 4 * a
+scratch-budget m a = omega arith

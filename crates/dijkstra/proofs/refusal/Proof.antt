@@ -1,0 +1,55 @@
+-- `dijkstra::refusal` meets its contract.
+-- Assumes nothing.
+use Rattle.dijkstra.proofs.refusal.Statement.{statement}
+use Rattle.dijkstra.proofs.refusal.Tie as tie
+use mathlib.Core.Path.{sym, _∙_}
+use borrow.Author.Needs.{needs}
+use borrow.Author.Tests.{not-true, not-false}
+use Rattle.table.proofs.Laws.{whole}
+use Rattle.net.proofs.Bounds.{whole-ints}
+use Rattle.dijkstra.proofs.Refusals.{refused-limits, refused-short, refused-outside, refused-unknown, refused-none}
+
+returns : tie.Need-returns
+returns c = refused-limits _ _ _ (sym (c .before .whole .ensures) ∙ not-true _ (c .if1 .taken))
+
+arc-room-requires : tie.Need-arc-room-requires
+arc-room-requires c κs =
+    let v = c .before .before .before .before .before .before .before .before .before .before .args in
+    whole-ints (v .map .bound) (v .map .count) (v .map .directed) (v .marks .now) (v .from .now) (v .to .now) (v .costs .now) (sym (c .before .whole .ensures) ∙ not-false _ (c .if1 .left)) .links
+
+returns-2 : tie.Need-returns-2
+returns-2 c = refused-short _ _ _ (sym (c .before .before .before .before .whole .ensures) ∙ not-false _ (c .before .before .before .if1 .left)) (c .before .long-enough .ensures) (c .before .before .arc-room .ensures) (not-true _ (c .if2 .taken))
+
+inside-requires : tie.Need-inside-requires
+inside-requires c κs = sym (c .before .before .before .before .whole .ensures) ∙ not-false _ (c .before .before .before .if1 .left)
+
+returns-3 : tie.Need-returns-3
+returns-3 c = refused-outside _ _ _ (sym (c .before .before .before .before .before .before .whole .ensures) ∙ not-false _ (c .before .before .before .before .before .if1 .left)) (c .before .before .before .long-enough .ensures) (c .before .before .before .before .arc-room .ensures) (not-false _ (c .before .before .if2 .left)) (sym (c .before .inside .ensures) ∙ not-true _ (c .if3 .taken))
+
+has-index-requires : tie.Need-has-index-requires
+has-index-requires c κs = whole _ _ _ _ (sym (c .before .before .before .before .before .before .whole .ensures) ∙ not-false _ (c .before .before .before .before .before .if1 .left)) .marked
+
+returns-4 : tie.Need-returns-4
+returns-4 c =
+    refused-unknown _ _ _ (sym (c .before .before .before .before .before .before .before .before .whole .ensures) ∙ not-false _ (c .before .before .before .before .before .before .before .if1 .left)) (c .before .before .before .before .before .long-enough .ensures) (c .before .before .before .before .before .before .arc-room .ensures) (not-false _ (c .before .before .before .before .if2 .left)) (sym (c .before .before .before .inside .ensures) ∙ not-false _ (c .before .before .if3 .left))
+    (sym (c .before .has-index .ensures) ∙ not-true _ (c .if4 .taken))
+
+returns-5 : tie.Need-returns-5
+returns-5 c =
+    refused-none _ _ _ (sym (c .before .before .before .before .before .before .before .before .whole .ensures) ∙ not-false _ (c .before .before .before .before .before .before .before .if1 .left)) (c .before .before .before .before .before .long-enough .ensures) (c .before .before .before .before .before .before .arc-room .ensures) (not-false _ (c .before .before .before .before .if2 .left)) (sym (c .before .before .before .inside .ensures) ∙ not-false _ (c .before .before .if3 .left))
+    (sym (c .before .has-index .ensures) ∙ not-false _ (c .if4 .left))
+
+pub refusal-spec : {M : Type 1} → statement M
+refusal-spec =
+    tie.close
+    (tie.spec
+    (λ c κs. search needs)
+    returns
+    arc-room-requires
+    (λ c κs. search needs)
+    returns-2
+    inside-requires
+    returns-3
+    has-index-requires
+    returns-4
+    returns-5)

@@ -1,0 +1,67 @@
+-- From what the parts gave to the promise: the answer of `johnson`, over plain lists. And its scratch keeps to the budget.
+-- Assumes nothing.
+use mathlib.Core.Path.{_≡_, refl, sym, ap, _∙_, subst}
+use mathlib.Core.Bool.{Bool, true, false}
+use mathlib.Core.List.{List}
+use Prim.Native.Nat.{ℕ, _+_, _*_, _≤_}
+use native.Mathlib.Omega.{arith}
+use lib.IntN.{ℤ, pos}
+use lib.ListN.{length}
+use Rattle.clean.specs.Fill.{filled}
+use Rattle.clean.specs.None.{noneI64}
+use Rattle.clean.proofs.Filled.{filled-same}
+use Rattle.net.specs.Net.{Net, sizeOf, width}
+use Rattle.rows.specs.Kept.{Kept, Needs}
+use Rattle.rows.proofs.Kept.{needs-kept}
+use Rattle.matrix.specs.Matrix.{square, negative, done}
+use Rattle.johnson.specs.Promise.{Scratch, scratchOf, wipedAll, Promise}
+use Rattle.johnson.specs.Parts.{refusalNo, Room, Passed, Solved}
+use Rattle.johnson.proofs.Shows.{memory-roomy}
+use Rattle.johnson.proofs.Refusals.{not-refused, passed}
+
+-- the scratch needs at most 8(m + 1) + 4a entries
+pub budget : (m a : ℕ) → (m + 1) + a + a + m + m + m + m + m + m ≤ 8 * (m + 1) + 4 * a
+budget m a = omega arith
+
+-- filling goes by the rest
+again : {X : Type 0} {n : ℕ} {l l₁ : List X} → Kept n l l₁ → (x : X) → filled n x l₁ ≡ filled n x l
+again {n} {l} {l₁} k x = filled-same n x l₁ l (k .rest)
+
+module _ (g : Net ℤ) (matrix : List ℤ) (s : Scratch) (ok : refusalNo g matrix s ≡ 0) where
+  p : Passed g matrix s
+  p = passed g matrix s ok
+
+  module _ {a : ℕ} (is : a ≡ sizeOf g) {matrix₁ : List ℤ} {s₁ : Scratch} {r : Bool} (v : Solved g matrix s matrix₁ s₁ r) where
+    pub room-after : Room (g .bound) a s₁
+    room-after = record {
+      bounded = p .room .bounded;
+      rows = subst (λ (n : ℕ). Needs (g .bound) n (s₁ .rows)) (sym is) (needs-kept (p .room .rows) (v .kept .rows));
+      heights = omega (arith, p .room .heights, v .kept .heights .long);
+      memory = memory-roomy (p .room .memory) (v .kept .memory);
+    }
+
+    module _ {s₂ : Scratch} (wiped : s₂ ≡ wipedAll (g .bound) a s₁) where
+      all : s₂ ≡ wipedAll (g .bound) (sizeOf g) s₁
+      all = subst (λ (n : ℕ). s₂ ≡ wipedAll (g .bound) n s₁) is wiped
+
+      -- the scratch at the end
+      ends : s₂ ≡ wipedAll (g .bound) (sizeOf g) s
+      ends = all ∙ (λ i. scratchOf
+          (again (v .kept .rows .offsets) 0 i) (again (v .kept .rows .heads) 0 i) (again (v .kept .rows .weights) (pos 0) i) (again (v .kept .heights) (pos 0) i)
+          (again (v .kept .memory .dist) (pos 0) i) (again (v .kept .memory .preds) 0 i) (again (v .kept .memory .heap) 0 i) (again (v .kept .memory .places) 0 i) (again (v .kept .memory .keys) (pos 0) i))
+
+      -- 0: the matrix holds the least totals
+      pub answer-no : r ≡ false → Promise g matrix s matrix₁ s₂ 0
+      answer-no f = done refl (not-refused g matrix s ok .0) (not-refused g matrix s ok .1) (v .no f .0) (v .no f .1) ends
+
+      -- 7: the matrix is blanked
+      module _ {k : ℕ} (many : k ≡ width g) where
+        pub blank-room : k * k ≤ length matrix₁
+        blank-room = subst (λ (x : ℕ). x * x ≤ length matrix₁) (sym many) (omega (arith, p .output, v .output .long))
+
+        module _ {matrix₂ : List ℤ} (blank : matrix₂ ≡ filled (k * k) noneI64 matrix₁) where
+          blanked : matrix₂ ≡ filled (square g) noneI64 matrix
+          blanked = subst (λ (x : ℕ). matrix₂ ≡ filled (x * x) noneI64 matrix₁) many blank ∙ again (v .output) noneI64
+
+          pub answer-yes : r ≡ true → Promise g matrix s matrix₂ s₂ 7
+          answer-yes f = negative refl (not-refused g matrix s ok .0) (not-refused g matrix s ok .1) (v .yes f) blanked ends

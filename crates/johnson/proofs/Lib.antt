@@ -1,0 +1,13 @@
+pub mod Looks
+pub mod Sweeps
+pub mod Tests
+pub mod Steps
+pub mod Sums
+pub mod Shifts
+pub mod Shifted
+pub mod Shows
+pub mod Lays
+pub mod Solves
+pub mod Refusals
+pub mod Answers
+pub mod Settles

@@ -1,0 +1,104 @@
+-- The refusals 1 and 2 as facts.
+-- Assumes nothing.
+use mathlib.Core.Path.{_≡_, refl, sym, ap, _∙_}
+use mathlib.Core.Bool.{Bool, true, false, cond, _&&_}
+use mathlib.Core.List.{List}
+use Prim.Native.Nat.{ℕ, _*_, _≤_}
+use native.Mathlib.Omega.{arith}
+use borrow.Author.Tests.{leb-true, le-leb}
+use lib.Dec.{leb}
+use lib.IntN.{ℤ}
+use lib.ListN.{length}
+use Rattle.whole.proofs.Cases.{and-left, and-right}
+use Rattle.net.specs.Net.{Net, netOf, wholeNet, insideNet, sizeOf, width}
+use Rattle.table.proofs.Laws.{whole}
+use Rattle.net.proofs.Bounds.{Whole, whole-ints}
+use Rattle.rows.specs.Scratch.{hasRoom}
+use Rattle.rows.proofs.Kept.{has-needs}
+use Rattle.matrix.specs.Matrix.{short, outside}
+use Rattle.johnson.specs.Promise.{Scratch, longEnough, enough, Promise}
+use Rattle.johnson.specs.Parts.{refusalNo, Passed}
+
+-- the last test of the lengths decides
+pub long-last : (m a p : ℕ) (matrix : List ℤ) (s : Scratch) → p * p ≤ length matrix → hasRoom m a (s .rows) ≡ true → m ≤ length (s .heights) → m ≤ length (s .dist) → m ≤ length (s .preds) → m ≤ length (s .heap) → m ≤ length (s .places) → leb m (length (s .keys)) ≡ longEnough m a p matrix s
+unfolding longEnough
+long-last m a p matrix s x r h d q b i =
+    rw (le-leb (p * p) (length matrix) x, r, le-leb m (length (s .heights)) h, le-leb m (length (s .dist)) d, le-leb m (length (s .preds)) q, le-leb m (length (s .heap)) b, le-leb m (length (s .places)) i)
+
+module _ (g : Net ℤ) (matrix : List ℤ) (s : Scratch) where
+  pub refused-limits : wholeNet g ≡ false → 1 ≡ refusalNo g matrix s
+  unfolding refusalNo
+  refused-limits e = rw e
+
+  -- the test of the slices, which said r
+  module _ (e : wholeNet g ≡ true) {a p : ℕ} {r : Bool} (said : r ≡ longEnough (g .bound) a p matrix s) (room : a ≡ sizeOf g) (many : p ≡ width g) where
+    gave : longEnough (g .bound) (sizeOf g) (width g) matrix s ≡ r
+    gave = sym (said ∙ (λ t. longEnough (g .bound) (room t) (many t) matrix s))
+
+    pub refused-short : r ≡ false → 1 ≡ refusalNo g matrix s
+    unfolding refusalNo
+    refused-short f = rw (e, gave ∙ f)
+
+    pub refused-outside : r ≡ true → insideNet g ≡ false → 2 ≡ refusalNo g matrix s
+    unfolding refusalNo
+    refused-outside f i = rw (e, gave ∙ f, i)
+
+    pub refused-none : r ≡ true → insideNet g ≡ true → 0 ≡ refusalNo g matrix s
+    unfolding refusalNo
+    refused-none f i = rw (e, gave ∙ f, i)
+
+  -- a refusal is what the promise says
+  pub refused : (r : ℕ) → r ≡ refusalNo g matrix s → (r ≡ 0 → ⊥) → Promise g matrix s matrix s r
+  unfolding refusalNo
+  refused r q f = go (enough g matrix s) (insideNet g) refl refl
+    where
+      go : (x y : Bool) → enough g matrix s ≡ x → insideNet g ≡ y → Promise g matrix s matrix s r
+      go false y e i = short (q ∙ rw e) e refl refl
+      go true false e i = outside (q ∙ rw (e, i)) e i refl refl
+      go true true e i = absurd (f (q ∙ rw (e, i)))
+
+  -- no refusal: nothing is too short, and each link is inside
+  pub not-refused : refusalNo g matrix s ≡ 0 → (enough g matrix s ≡ true) × (insideNet g ≡ true)
+  unfolding refusalNo
+  not-refused q = go (enough g matrix s) (insideNet g) refl refl
+    where
+      go : (x y : Bool) → enough g matrix s ≡ x → insideNet g ≡ y → (enough g matrix s ≡ true) × (insideNet g ≡ true)
+      go false y e i = absurd (let h : refusalNo g matrix s ≡ 1 = rw e in omega (arith, q, h))
+      go true false e i = absurd (let h : refusalNo g matrix s ≡ 2 = rw (e, i) in omega (arith, q, h))
+      go true true e i = (e, i)
+
+  module _ (ok : refusalNo g matrix s ≡ 0) where
+    pub passed : Passed g matrix s
+    unfolding longEnough
+    passed =
+        let m = g .bound in
+        let a = sizeOf g in
+        let e = not-refused ok .0 in
+        let l = and-right (wholeNet g) _ e in
+        let e1 = and-right (leb (width g * width g) (length matrix)) _ l in
+        let e2 = and-right (hasRoom m a (s .rows)) _ e1 in
+        let e3 = and-right (leb m (length (s .heights))) _ e2 in
+        let e4 = and-right (leb m (length (s .dist))) _ e3 in
+        let e5 = and-right (leb m (length (s .preds))) _ e4 in
+        let e6 = and-right (leb m (length (s .heap))) _ e5 in
+        record {
+          whole = and-left (wholeNet g) _ e;
+          inside = not-refused ok .1;
+          output = leb-true _ _ (and-left (leb (width g * width g) (length matrix)) _ l);
+          room = record {
+            bounded = whole (g .bound) (g .count) (g .room) (g .marks) (and-left (wholeNet g) _ e) .indices;
+            rows = has-needs m a (s .rows) (and-left (hasRoom m a (s .rows)) _ e1);
+            heights = leb-true _ _ (and-left (leb m (length (s .heights))) _ e2);
+            memory = record {
+              dist = leb-true _ _ (and-left (leb m (length (s .dist))) _ e3);
+              preds = leb-true _ _ (and-left (leb m (length (s .preds))) _ e4);
+              heap = leb-true _ _ (and-left (leb m (length (s .heap))) _ e5);
+              places = leb-true _ _ (and-left (leb m (length (s .places))) _ e6);
+              keys = leb-true _ _ (and-right (leb m (length (s .places))) _ e6);
+            };
+          };
+        }
+
+-- the limits of an integer map that is not refused
+pub limits : (m n : ℕ) (d : Bool) (marks xs ys : List ℕ) (cs matrix : List ℤ) (s : Scratch) → refusalNo (netOf m n d marks xs ys cs) matrix s ≡ 0 → Whole (netOf m n d marks xs ys cs)
+limits m n d marks xs ys cs matrix s ok = whole-ints m n d marks xs ys cs (passed (netOf m n d marks xs ys cs) matrix s ok .whole)
