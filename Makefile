@@ -1,4 +1,4 @@
-# make test: the gate. make run: proves what stands, without the must-fail edits.
+# make test: the gate. make run: proves what stands and runs the programs, without the must-fail edits.
 .PHONY: test run
 
 test:

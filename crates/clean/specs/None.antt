@@ -1,5 +1,6 @@
--- The none values of lent buffers, by the type of their entries.
+-- The none values of lent buffers, by the type of their entries, and how an answer that may be missing stands there.
 -- Assumes nothing.
+use mathlib.Core.Option.{Option, none, some}
 use Prim.Native.Nat.{ℕ, _^_, _-_}
 use lib.IntN.{ℤ, negsuc}
 use lib.Ieee.{Float, binary64, ofBits}
@@ -15,3 +16,8 @@ noneU32 = 4294967295
 -- -1.0, by its bits
 abbrev pub noneF64 : Float
 noneF64 = ofBits binary64 0xbff0_0000_0000_0000
+
+-- an answer that may be missing, as a lent entry shows it: x where there is none
+abbrev pub shown : {X : Type 0} → X → Option X → X
+shown x none = x
+shown x (some y) = y

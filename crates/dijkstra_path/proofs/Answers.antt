@@ -15,7 +15,6 @@ use Rattle.clean.proofs.Filled.{filled-same}
 use Rattle.float.specs.Dist.{zero64}
 use Rattle.float.specs.Cutoff.{past}
 use Rattle.float.specs.declared.Cutoff.{Cutoff}
-use Rattle.table.specs.Links.{arcs}
 use Rattle.table.specs.Lent.{FloatCost}
 use Rattle.net.specs.Net.{Net, netOf64, OpenArcOf, insideNet, arcRoom}
 use Rattle.net.proofs.Nodes.{has-below}
@@ -23,21 +22,12 @@ use Rattle.net.proofs.Bounds.{Whole, whole-floats}
 use Rattle.rows.specs.Rows.{Lists, listsOf, arcsOpen, Ready, Room, Rows}
 use Rattle.rows.specs.RowArc.{RowArc, Sound}
 use Rattle.rows.proofs.Maps.{open-room, open-are, open-sound, open-kept, ready-floats, room-of}
-use Rattle.pending.specs.Setting.{End}
-use Rattle.pending.specs.OnePlace.{Cell, Ends, empty, found, wrong, more}
 use Rattle.pending.specs.Floats.{search64}
-use Rattle.pending.proofs.One.{ends-map}
+use Rattle.pending.proofs.One.{number-is, ends-map}
 use Rattle.turns.specs.Memory.{Memory, memoryOf}
 use Rattle.dijkstra_path.specs.Promise.{Buffers, buffersOf, left, EndsIn, Promise, bad, done}
 use Rattle.dijkstra_path.specs.Parts.{refusalNo, Roomy, Ran}
 use Rattle.dijkstra_path.proofs.Refusals.{passed, whole-of, long-of}
-
--- a search ends with 0 or 6
-pub number-is : {K C : Type 0} {S : Rattle.pending.specs.Setting.Setting K C} {Arc : ℕ → ℕ → C → Type 0} {c : ℕ → Cell K} {n : ℕ} {e : End K} → Ends S Arc c n e → (e .number ≡ 0) ⊎ (e .number ≡ 6)
-number-is (empty f) = inl refl
-number-is (found u d p t g) = inl refl
-number-is (wrong u d p t g v c a b) = inr refl
-number-is (more w r) = number-is r
 
 -- the lists of a search among the buffers
 abbrev pub memory : Buffers → Memory Float

@@ -12,7 +12,7 @@ use lib.Ieee.{Float, nan, inf, fin, binary64, lt, eq, ofBits}
 use Rattle.clean.specs.None.{noneF64}
 use Rattle.float.specs.Dist.{Dist, zero64}
 use Rattle.float.specs.Cutoff.{past}
-use Rattle.float.specs.Relax.{betterThan}
+use Rattle.float.specs.Better.{betterThan}
 use Rattle.float.specs.declared.Cutoff.{Cutoff}
 use Rattle.float.proofs.Dist.{lt-asym}
 use Rattle.float.proofs.Cost.{zero-dist, plus-dist, plus-grows}

@@ -1,6 +1,8 @@
 pub mod Floats
 pub mod Tests
 pub mod Settles
+pub mod Entries
+pub mod Exact
 pub mod Runs
 pub mod Refusals
 pub mod Answers

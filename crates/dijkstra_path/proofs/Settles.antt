@@ -1,28 +1,29 @@
 -- The promise settles the answer and each buffer, goes by the open arcs alone, and by what the cutoff cuts.
 -- Assumes nothing.
 use mathlib.Core.Path.{_≡_, sym, ap, _∙_, subst}
-use mathlib.Core.Bool.{Bool, true, false}
+use mathlib.Core.Bool.{true, false}
 use mathlib.Core.List.{List}
 use mathlib.Core.Logic.{_↔_}
 use mathlib.Core.Option.{none}
 use Prim.Native.Nat.{ℕ, _+_, _*_, _≤_}
 use native.Mathlib.Omega.{arith}
-use lib.Ieee.{Float, nan, inf}
+use lib.Ieee.{Float, nan, inf, binary64, ofBits}
 use Rattle.whole.proofs.Cases.{clash, other}
 use Rattle.clean.specs.None.{noneF64, noneU32}
 use Rattle.clean.proofs.Filled.{settled-one}
+use Rattle.float.specs.Dist.{Dist, zero64}
 use Rattle.float.specs.Cutoff.{past}
 use Rattle.float.specs.declared.Cutoff.{Cutoff}
 use Rattle.float.specs.declared.Cutoff.the-variants.{None, At}
-use Rattle.float.proofs.Past.{past-none, past-nan, past-infinity}
+use Rattle.float.proofs.Past.{past-none, past-nan, past-infinity, past-minus}
 use Rattle.table.specs.Lent.{FloatCost}
 use Rattle.net.specs.Net.{Net, OpenArcOf, insideNet, has, SameNet}
 use Rattle.net.proofs.Same.{same-inside, same-size, same-open}
 use Rattle.pending.specs.Setting.{End}
-use Rattle.pending.specs.OnePlace.{begin, Ends}
 use Rattle.pending.specs.Floats.{search64}
 use Rattle.pending.proofs.Floats.{laws64}
 use Rattle.pending.proofs.One.{begin-ok, ends-one, ends-map}
+use Rattle.pending.proofs.Cutoff64.{same-cutoff64}
 use Rattle.dijkstra_path.specs.Promise.{Buffers, enough, left, blank, EndsIn, Answers, Promise, short, outside, absent, bad, done}
 
 -- ---- two answers that the promise allows are equal
@@ -126,10 +127,10 @@ module _ {g g′ : Net FloatCost} (same : SameNet g g′) where
   pub same-answers : {s : ℕ} {k : Cutoff} {b e e′ : Buffers} {no no′ : ℕ} → Promise g s k b e no → Promise g′ s k b e′ no′ → (no ≡ no′) × (e ≡ e′)
   same-answers p q = promise-one (promise-arcs p) q
 
--- ---- cutoffs that cut the same
-module _ (k k′ : Cutoff) (alike : (x : Float) → past k x ≡ past k′ x) where
+-- ---- cutoffs that cut the same distances
+module _ (k k′ : Cutoff) (alike : (x : Float) → Dist binary64 x → past k x ≡ past k′ x) where
   cut-over : {g : Net FloatCost} {s : ℕ} {x : End Float} → EndsIn g s k x → EndsIn g s k′ x
-  cut-over {g} {s} {x} r = record { run = subst (λ (c : Float → Bool). Ends (search64 c none s) (OpenArcOf g) (begin (search64 c none s)) 0 x) (λ i y. alike y i) (r .run) }
+  cut-over {g} {s} {x} r = record { run = same-cutoff64 k k′ alike s (OpenArcOf g) x (r .run) }
 
   pub promise-cut : {g : Net FloatCost} {s : ℕ} {b e : Buffers} {no : ℕ} → Promise g s k b e no → Promise g s k′ b e no
   promise-cut (short n p q) = short n p q
@@ -140,10 +141,14 @@ module _ (k k′ : Cutoff) (alike : (x : Float) → past k x ≡ past k′ x) wh
 
 -- a NaN cuts nothing, nor does +infinity: both answer as no cutoff
 pub cutoff-nan : {g : Net FloatCost} {s : ℕ} {b e : Buffers} {no : ℕ} → Promise g s (At nan) b e no ↔ Promise g s None b e no
-cutoff-nan = (promise-cut (At nan) None (λ x. past-nan x ∙ sym (past-none x)), promise-cut None (At nan) (λ x. past-none x ∙ sym (past-nan x)))
+cutoff-nan = (promise-cut (At nan) None (λ x p. past-nan x ∙ sym (past-none x)), promise-cut None (At nan) (λ x p. past-none x ∙ sym (past-nan x)))
 
 pub cutoff-infinity : {g : Net FloatCost} {s : ℕ} {b e : Buffers} {no : ℕ} → Promise g s (At (inf false)) b e no ↔ Promise g s None b e no
-cutoff-infinity = (promise-cut (At (inf false)) None (λ x. past-infinity x ∙ sym (past-none x)), promise-cut None (At (inf false)) (λ x. past-none x ∙ sym (past-infinity x)))
+cutoff-infinity = (promise-cut (At (inf false)) None (λ x p. past-infinity x ∙ sym (past-none x)), promise-cut None (At (inf false)) (λ x p. past-none x ∙ sym (past-infinity x)))
+
+-- -0.0 acts as 0.0
+pub cutoff-minus : {g : Net FloatCost} {s : ℕ} {b e : Buffers} {no : ℕ} → Promise g s (At (ofBits binary64 0x8000_0000_0000_0000)) b e no ↔ Promise g s (At zero64) b e no
+cutoff-minus = (promise-cut (At (ofBits binary64 0x8000_0000_0000_0000)) (At zero64) (λ x p. past-minus x (p .is-clear)), promise-cut (At zero64) (At (ofBits binary64 0x8000_0000_0000_0000)) (λ x p. sym (past-minus x (p .is-clear))))
 
 -- ---- the scratch is within what 01 allows
 pub scratch-budget : (m a : ℕ) → (m + 1) + a + a + m + m + m ≤ 8 * (m + 1) + 4 * a

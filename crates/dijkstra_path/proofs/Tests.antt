@@ -9,7 +9,7 @@ use lib.Ieee.{Float, nan}
 use Rattle.clean.specs.None.{noneF64}
 use Rattle.float.specs.Dist.{plus64}
 use Rattle.float.specs.Cutoff.{past}
-use Rattle.float.specs.Relax.{betterThan}
+use Rattle.float.specs.Better.{betterThan}
 use Rattle.float.specs.declared.Cutoff.{Cutoff}
 use Rattle.turns.specs.Row.{betterAt}
 use Rattle.clean.proofs.Filled.{no-default}

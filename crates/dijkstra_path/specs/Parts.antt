@@ -8,7 +8,7 @@ use Prim.Native.Nat.{ℕ, _≤_}
 use lib.Ieee.{Float}
 use lib.ListN.{length, drop}
 use Rattle.clean.specs.Fill.{Settled}
-use Rattle.clean.specs.None.{noneF64, noneU32}
+use Rattle.clean.specs.None.{noneF64, noneU32, shown}
 use Rattle.float.specs.Cutoff.{past}
 use Rattle.float.specs.declared.Cutoff.{Cutoff}
 use Rattle.table.specs.Lent.{FloatCost}
@@ -18,7 +18,6 @@ use Rattle.rows.specs.RowArc.{RowArc}
 use Rattle.pending.specs.Setting.{End}
 use Rattle.pending.specs.OnePlace.{begin, Ends}
 use Rattle.pending.specs.Floats.{search64}
-use Rattle.turns.specs.Shown.{shown}
 use Rattle.turns.specs.Memory.{Memory}
 use Rattle.dijkstra_path.specs.Promise.{Buffers, enough}
 

@@ -9,7 +9,7 @@ use lib.Dec.{leb}
 use lib.Ieee.{Float}
 use lib.ListN.{length}
 use Rattle.clean.specs.Fill.{filled, Settled}
-use Rattle.clean.specs.None.{noneF64, noneU32}
+use Rattle.clean.specs.None.{noneF64, noneU32, shown}
 use Rattle.float.specs.Dist.{zero64}
 use Rattle.float.specs.Cutoff.{past}
 use Rattle.float.specs.declared.Cutoff.{Cutoff}
@@ -18,7 +18,6 @@ use Rattle.net.specs.Net.{Net, OpenArcOf, wholeNet, insideNet, has, sizeOf}
 use Rattle.pending.specs.Setting.{End}
 use Rattle.pending.specs.OnePlace.{begin, Ends}
 use Rattle.pending.specs.Floats.{search64}
-use Rattle.turns.specs.Shown.{shown}
 
 -- the lent buffers: distances and predecessors, and the scratch
 pub record Buffers : Type 0 where

@@ -4,5 +4,4 @@ pub mod Real
 pub mod BitOrder
 pub mod Whole
 pub mod None
-pub mod Arc
 pub mod Past

@@ -2,5 +2,5 @@ pub mod Dist
 pub mod Cost
 pub mod Whole
 pub mod Cutoff
-pub mod Relax
+pub mod Better
 pub mod Stored

@@ -5,19 +5,12 @@ ghost use lib.Ieee.{binary64};
 ghost use Rattle.float.specs.Dist.{plus64};
 ghost use Rattle.float.specs.Cost.{badCost};
 ghost use Rattle.float.specs.Cutoff.{past};
-ghost use Rattle.float.specs.Relax.{relaxOf, betterThan};
+ghost use Rattle.float.specs.Better.{betterThan};
 
 // A cutoff: none, or at a value, which may be any.
 pub enum Cutoff {
     None,
     At(f64),
-}
-
-// What an arc comes to: a bad cost, a total past the cutoff, or a total.
-pub enum Relaxed {
-    Bad,
-    Cut,
-    Sum(f64),
 }
 
 // Is the sign bit set, or is it a NaN? As numbers these are the patterns past that of +infinity.
@@ -50,18 +43,4 @@ pub fn better(next: f64, stored: f64) -> bool
     ensures { λ r. ⌜ r ≡ betterThan next stored ⌝ }
 {
     stored == clean::NONE_F64 || next < stored
-}
-
-// One arc from an index at distance d.
-pub fn relax(d: f64, bits: u64, cutoff: Cutoff) -> Relaxed
-    ensures { λ r. ⌜ r ≡ relaxOf d bits cutoff ⌝ }
-{
-    if bad_cost(bits) {
-        return Relaxed::Bad;
-    }
-    let next = plus(d, bits);
-    if cuts(cutoff, next) {
-        return Relaxed::Cut;
-    }
-    Relaxed::Sum(next)
 }

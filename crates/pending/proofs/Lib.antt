@@ -11,6 +11,7 @@ pub mod Stop
 pub mod Widen
 pub mod Cutoff
 pub mod Source
+pub mod Stored
 pub mod Like
 pub mod Content
 pub mod Ints

@@ -3,6 +3,7 @@
 -- both the least, neither is below the other. A relation with the same arcs gives the same turns.
 use mathlib.Core.Path.{_≡_, refl, sym, ap, _∙_, subst, fun-ext}
 use mathlib.Core.Bool.{Bool, true, false}
+use mathlib.Core.Logic.{_⊎_, inl, inr}
 use mathlib.Core.Option.{Option, none, some}
 use Prim.Native.Nat.{ℕ, suc, _≤_}
 use native.Mathlib.Omega.{arith}
@@ -95,6 +96,20 @@ module _ {K C : Type 0} (S : Setting K C) {ok : K → Type 0} (L : Laws S ok) wh
     ends-one oks (more w r) (found u d p t g) = absurd (stuck oks t (w .taken) g (w .passed))
     ends-one oks (more w r) (wrong u d p t g v c a b) = absurd (bad-good oks t (w .taken) a b (w .good))
     ends-one {n} {f} oks (more {t} w r) (more {t = t'} w' r') = ends-one (next-ok oks w) r (subst (λ (z : ℕ → Cell K). Ends S Arc z (suc n) f) (sym (next-one oks w w')) r')
+
+-- a search ends with 0 or 6
+pub number-is : {K C : Type 0} {S : Setting K C} {Arc : ℕ → ℕ → C → Type 0} {s : ℕ → Cell K} {n : ℕ} {e : End K} → Ends S Arc s n e → (e .number ≡ 0) ⊎ (e .number ≡ 6)
+number-is (empty f) = inl refl
+number-is (found u d p t g) = inl refl
+number-is (wrong u d p t g v c a b) = inr refl
+number-is (more w r) = number-is r
+
+-- and with 0 where no arc is bad
+pub all-good : {K C : Type 0} {S : Setting K C} {Arc : ℕ → ℕ → C → Type 0} → ((u v : ℕ) (c : C) → Arc u v c → S .bad c ≡ false) → {s : ℕ → Cell K} {n : ℕ} {e : End K} → Ends S Arc s n e → e .number ≡ 0
+all-good h (empty f) = refl
+all-good h (found u d p t g) = refl
+all-good h (wrong u d p t g v c a b) = absurd (clash b (h u v c a))
+all-good h (more w r) = all-good h r
 
 -- takes are counted up
 pub takes-up : {K C : Type 0} (S : Setting K C) (Arc : ℕ → ℕ → C → Type 0) {s : ℕ → Cell K} {n : ℕ} {e : End K} → Ends S Arc s n e → n ≤ e .takes

@@ -10,7 +10,7 @@ use native.Mathlib.Decide.{ℕ-discrete}
 use lib.ListN.{length, getD, set, replicate, length-set, length-replicate}
 use lib.Seq.{getD-set-same, getD-set-other}
 use borrow.Author.Tests.{lt-ltb}
-use Rattle.clean.specs.None.{noneU32}
+use Rattle.clean.specs.None.{noneU32, shown}
 use Rattle.bag.specs.Content.{contentOf}
 use Rattle.bag.specs.Bag.{Bag, NotAbove}
 use Rattle.bag.proofs.Empty.{cleared-bag, cleared-content}
@@ -22,7 +22,6 @@ use Rattle.pending.specs.Content.{cellOf, Holds}
 use Rattle.pending.proofs.Content.{holds-store}
 use Rattle.pending.proofs.Cells.{upd-here, upd-there, not-out}
 use Rattle.turns.specs.Kind.{Kind, turnOf}
-use Rattle.turns.specs.Shown.{shown}
 use Rattle.turns.specs.Memory.{Memory, predIn, waits, cells, cellsOf, Good, Fresh}
 use Rattle.turns.proofs.Lawful.{Lawful}
 

@@ -9,7 +9,7 @@ use Prim.Native.Nat.{ℕ, zero, suc, _-_, _≤_, _<_}
 use native.Mathlib.Omega.{arith}
 use native.Mathlib.Decide.{ℕ-discrete}
 use lib.ListN.{length, getD, set}
-use Rattle.clean.specs.None.{noneU32}
+use Rattle.clean.specs.None.{noneU32, shown}
 use Rattle.rows.specs.Rows.{Lists}
 use Rattle.rows.specs.RowArc.{RowArc, Sound}
 use Rattle.walks.specs.Pigeon.{In, here, there}
@@ -26,7 +26,6 @@ use Rattle.pending.proofs.Content.{holds-takes, holds-empty, holds-pop, leads-b
 use Rattle.pending.proofs.Cells.{upd-here, upd-there, not-out}
 use Rattle.pending.proofs.Once.{Within, begin-within, next-within}
 use Rattle.turns.specs.Kind.{Kind, settingOf, turnOf}
-use Rattle.turns.specs.Shown.{shown}
 use Rattle.turns.specs.Memory.{Memory, memoryOf, predIn, waits, cells, cellsOf, Good, Fresh}
 use Rattle.turns.specs.Row.{Opens, RowDone}
 use Rattle.turns.specs.Searched.{Started, Searched}

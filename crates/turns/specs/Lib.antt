@@ -1,5 +1,4 @@
 pub mod Kind
-pub mod Shown
 pub mod Memory
 pub mod Row
 pub mod Searched

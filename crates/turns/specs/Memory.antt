@@ -7,7 +7,7 @@ use mathlib.Core.Option.{Option, none, some}
 use Prim.Native.Nat.{ℕ}
 use lib.Dec.{ltb}
 use lib.ListN.{length, getD, replicate}
-use Rattle.clean.specs.None.{noneU32}
+use Rattle.clean.specs.None.{noneU32, shown}
 use Rattle.bag.specs.Order.{pick}
 use Rattle.bag.specs.Keys.{Okay}
 use Rattle.bag.specs.Content.{contentOf}
@@ -17,7 +17,6 @@ use Rattle.pending.specs.OnePlace.{Cell, distOf, predOf}
 use Rattle.pending.specs.Laws.{OkCell}
 use Rattle.pending.specs.Content.{cellOf, Holds}
 use Rattle.turns.specs.Kind.{Kind, turnOf}
-use Rattle.turns.specs.Shown.{shown}
 
 pub record Memory (K : Type 0) : Type 0 where
   pub dist : List K

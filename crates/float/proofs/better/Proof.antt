@@ -1,6 +1,6 @@
 -- `float::better` meets its contract.
 -- Assumes nothing.
-use Rattle.float.specs.Relax.{betterThan}
+use Rattle.float.specs.Better.{betterThan}
 use Rattle.float.proofs.better.Statement.{statement}
 use Rattle.float.proofs.better.Tie as tie
 

@@ -1,0 +1,128 @@
+-- What the entries hold after 0. The source has +0.0 and no predecessor, whatever the cutoff; any other index has both a distance and a predecessor, which the map has,
+-- or neither. Under a cutoff below zero the source alone has a distance, for every total is at least 0.0 and so past it. No index is taken and kept twice, so there are
+-- no more kept takes than present indices; and keys come out in rising order, since no rounded sum with a good cost is below the distance that it starts from.
+-- All of it comes from the pending bag's laws (pending/proofs: Source, Stored, Cutoff64, Once), read off the lent entries.
+-- Assumes nothing.
+use mathlib.Core.Path.{_≡_, refl, ap, _∙_, sym, subst}
+use mathlib.Core.Bool.{true}
+use mathlib.Core.List.{List, _∷_}
+use mathlib.Core.Option.{Option, none}
+use Prim.Native.Nat.{ℕ, _≤_, _<_}
+use native.Mathlib.Omega.{arith}
+use lib.Dec.{T}
+use lib.ListN.{getD}
+use lib.Ieee.{Float, inf, binary64, lt, fits, ofBits}
+use Rattle.whole.proofs.Cases.{other, and-left}
+use Rattle.clean.specs.None.{noneF64, noneU32, shown}
+use Rattle.float.specs.Dist.{Dist, zero64}
+use Rattle.float.specs.Cutoff.{past}
+use Rattle.float.specs.declared.Cutoff.{Cutoff}
+use Rattle.float.specs.declared.Cutoff.the-variants.{At}
+use Rattle.float.proofs.Cost.{plus-grows}
+use Rattle.table.specs.Lent.{FloatCost}
+use Rattle.table.proofs.Laws as table
+use Rattle.net.specs.Net.{Net, OpenArcOf, wholeNet, insideNet, has, nodesOf, width, sizeOf}
+use Rattle.net.proofs.Same.{open-has, open-below}
+use Rattle.net.proofs.Nodes.{has-below, present-in}
+use Rattle.walks.specs.Pigeon.{In, NoDup}
+use Rattle.pending.specs.Setting.{End}
+use Rattle.pending.specs.OnePlace.{Cell, Takes}
+use Rattle.pending.specs.Floats.{search64}
+use Rattle.pending.proofs.Floats.{laws64, once-rising64, from-source64}
+use Rattle.pending.proofs.Source.{Both, neither, both}
+use Rattle.pending.proofs.Stored.{good-dist, pred-arc}
+use Rattle.pending.proofs.Once.{indices, Rising, Took, begin-within, begin-once, takes-few}
+use Rattle.pending.proofs.Cutoff64.{source-alone64}
+use Rattle.dijkstra_path.specs.Promise.{Buffers, longEnough, EndsIn, Promise, short, outside, absent, bad, done}
+
+-- after 0 the entries show an end of the pending bag
+pub record Showing (g : Net FloatCost) (s : ℕ) (k : Cutoff) (e : Buffers) : Type 0 where
+  pub end : End Float
+  pub ends : EndsIn g s k end
+  pub number : end .number ≡ 0
+  pub limit : g .bound ≤ 1024
+  pub inside : insideNet g ≡ true
+  pub source : has g s ≡ true
+  pub dist : (v : ℕ) → v < g .bound → getD (e .dist) v noneF64 ≡ shown noneF64 (end .dist v)
+  pub preds : (v : ℕ) → v < g .bound → getD (e .preds) v noneU32 ≡ shown noneU32 (end .pred v)
+
+pub showing : {g : Net FloatCost} {s : ℕ} {k : Cutoff} {b e : Buffers} {no : ℕ} → Promise g s k b e no → no ≡ 0 → Showing g s k e
+showing (short n p q) z = other 1 0 n z (λ w. omega arith)
+showing (outside n p i q) z = other 2 0 n z (λ w. omega arith)
+showing (absent n p i h q) z = other 3 0 n z (λ w. omega arith)
+showing (bad n p i h x r y q) z = other 6 0 n z (λ w. omega arith)
+showing {g} {b = b} (done n p i h x r y a q) z = record {
+  end = x;
+  ends = r;
+  number = y;
+  limit = table.whole (g .bound) (g .count) (g .room) (g .marks) (and-left (wholeNet g) (longEnough (g .bound) (sizeOf g) b) p) .indices;
+  inside = i;
+  source = h;
+  dist = λ v l. a .dist .each v noneF64 l;
+  preds = λ v l. a .preds .each v noneU32 l;
+}
+
+-- the entries of an index: none and none, or a distance and an index below m as its predecessor
+pub data Paired (m : ℕ) (d : Float) (p : ℕ) : Type 0 where
+  missing : d ≡ noneF64 → p ≡ noneU32 → Paired m d p
+  reached : Dist binary64 d → p < m → Paired m d p
+
+module _ {g : Net FloatCost} {s : ℕ} {k : Cutoff} {b e : Buffers} {no : ℕ} (promise : Promise g s k b e no) (zero : no ≡ 0) where
+  -- the source: +0.0 and no predecessor
+  pub source-entry : (getD (e .dist) s noneF64 ≡ zero64) × (getD (e .preds) s noneU32 ≡ noneU32)
+  source-entry =
+      let w = showing promise zero in
+      let f = from-source64 (past k) none s (OpenArcOf g) (w .end) (w .ends .run) (w .number) in
+      let l = has-below g s (w .source) in
+      (w .dist s l ∙ ap (shown noneF64) (f .dist), w .preds s l ∙ ap (shown noneU32) (f .pred))
+
+  -- any other index: both or neither
+  pub other-entry : (v : ℕ) → v < g .bound → (v ≡ s → ⊥) → Paired (g .bound) (getD (e .dist) v noneF64) (getD (e .preds) v noneU32)
+  other-entry v l n = go refl refl (from-source64 (past k) none s (OpenArcOf g) (w .end) (w .ends .run) (w .number) .others v n)
+    where
+      w : Showing g s k e
+      w = showing promise zero
+
+      go : {x : Option Float} {p : Option ℕ} → w .end .dist v ≡ x → w .end .pred v ≡ p → Both x p → Paired (g .bound) (getD (e .dist) v noneF64) (getD (e .preds) v noneU32)
+      go i j neither = missing (w .dist v l ∙ ap (shown noneF64) i) (w .preds v l ∙ ap (shown noneU32) j)
+      go i j (both {d} {u}) =
+          let a = pred-arc (search64 (past k) none s) (OpenArcOf g) (w .ends .run) v u j in
+          reached
+          (subst (Dist binary64) (sym (w .dist v l ∙ ap (shown noneF64) i)) (good-dist (search64 (past k) none s) (laws64 (past k) none s) (OpenArcOf g) (w .ends .run) v i))
+          (subst (λ (z : ℕ). z < g .bound) (sym (w .preds v l ∙ ap (shown noneU32) j)) (open-below g (w .inside) u v (a .0) (a .1) .0))
+
+-- under a cutoff below zero every other index has none
+pub source-alone : (c : Float) → T (fits binary64 c) → lt c zero64 ≡ true → {g : Net FloatCost} {s : ℕ} {b e : Buffers} {no : ℕ} → Promise g s (At c) b e no → no ≡ 0
+    → (v : ℕ) → v < g .bound → (v ≡ s → ⊥) → (getD (e .dist) v noneF64 ≡ noneF64) × (getD (e .preds) v noneU32 ≡ noneU32)
+source-alone c held below {g} {s} {e = e} promise zero v l n = go refl refl (from-source64 (past (At c)) none s (OpenArcOf g) (w .end) (w .ends .run) (w .number) .others v n)
+  where
+    w : Showing g s (At c) e
+    w = showing promise zero
+
+    lone : w .end .dist v ≡ none
+    lone = source-alone64 c held below s (OpenArcOf g) (w .end) (w .ends .run) v n
+
+    go : {x : Option Float} {p : Option ℕ} → w .end .dist v ≡ x → w .end .pred v ≡ p → Both x p → (getD (e .dist) v noneF64 ≡ noneF64) × (getD (e .preds) v noneU32 ≡ noneU32)
+    go i j neither = (w .dist v l ∙ ap (shown noneF64) i, w .preds v l ∙ ap (shown noneU32) j)
+    go i j both = absurd (let q = sym i ∙ lone in let z : _≡_ {A = ℕ} 0 1 = cc in omega arith)
+
+-- -infinity is such a cutoff
+pub infinity-below : T (fits binary64 (inf true)) × (lt (inf true) zero64 ≡ true)
+unfolding lt fits zero64 ofBits
+infinity-below = (tt, refl)
+
+-- no index is taken and kept twice, and keys come out in rising order
+pub takes-rise : (g : Net FloatCost) (s : ℕ) (k : Cutoff) {l : List (ℕ × Float)} {c : ℕ → Cell Float} {u : ℕ} {d : Float} {p : Option ℕ}
+    → Took (search64 (past k) none s) (OpenArcOf g) l c → Takes (search64 (past k) none s) c u d p → NoDup (u ∷ indices l) × Rising lt ((u, d) ∷ l)
+takes-rise g s k = once-rising64 (past k) none s (OpenArcOf g)
+
+-- so there are no more kept takes than present indices
+pub takes-few64 : {g : Net FloatCost} {s : ℕ} {k : Cutoff} {x : End Float} → insideNet g ≡ true → has g s ≡ true → EndsIn g s k x → x .takes ≤ width g
+takes-few64 {g} {s} {k} i h r =
+    let S = search64 (past k) none s in
+    let L = laws64 (past k) none s in
+    let at = present-in g s h in
+    takes-few S L (λ d v. refl) plus-grows (OpenArcOf g) (nodesOf g) at (λ u v c a. heads u v c a) (begin-within S (OpenArcOf g) (nodesOf g) at (λ u v c a. heads u v c a)) (begin-once S L (λ d v. refl) plus-grows (OpenArcOf g)) (r .run)
+  where
+    heads : (u v c : ℕ) → OpenArcOf g u v c → In v (nodesOf g)
+    heads u v c a = present-in g v (open-has g i u v c a .1)
