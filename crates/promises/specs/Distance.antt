@@ -1,0 +1,21 @@
+-- A distance as demand 2 has it.
+-- Assumes nothing.
+use mathlib.Core.Path.{_≡_}
+use mathlib.Core.Logic.{_↔_}
+use Prim.Native.Nat.{ℕ, _+_, _≤_, _^_}
+use lib.IntN.{ℤ}
+use lib.Signed.{_≤ℤ_}
+use Rattle.whole.specs.Zed.{P, N}
+use Rattle.clean.specs.None.{noneI64}
+use Rattle.walks.specs.Walk.{Walk}
+use Rattle.net.specs.Net.{Net, ArcOf}
+
+-- d is the distance from s to v: a number given is the total of a walk, no walk has a lower total, and it is none exactly without a walk
+pub record Distance (Arc : ℕ → ℕ → ℤ → Type 0) (s v : ℕ) (d : ℤ) : Type 0 where
+  pub attained : (d ≡ noneI64 → ⊥) → Walk Arc s v d
+  pub lowest : (t : ℤ) → Walk Arc s v t → d ≤ℤ t
+  pub none-exactly : (d ≡ noneI64) ↔ ((t : ℤ) → Walk Arc s v t → ⊥)
+
+-- every cost fits 32 bits, as the slice that it is read from has it
+abbrev pub Costs32 : Net ℤ → Type 0
+Costs32 g = (u v : ℕ) (c : ℤ) → ArcOf g u v c → P c + N c ≤ 2 ^ 31

@@ -1,0 +1,3 @@
+pub mod Maps
+pub mod Distance
+pub mod Exact
