@@ -134,7 +134,7 @@ fn start(
 }
 
 // The search from a source over the neighbour list of indices below m.
-pub fn search_f64(
+fn search_f64(
     m: usize,
     source: usize,
     cutoff: float::Cutoff,
