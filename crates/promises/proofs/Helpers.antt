@@ -1,0 +1,41 @@
+-- The contracts of helpers that state a relation settle the result and the buffers as well: what each relation allows is one thing.
+-- `printed-one`: text that was printed (crates lines, text). `ranks-one`: the ranks of the nodes (net, set_ranks). `first-place-one`: the first place of a link
+-- (table, find_link). Of the neighbour lists rows says it (`rows-one`), of the questions each crate's `promise-one`.
+-- Assumes nothing.
+use mathlib.Core.Path.{_≡_, sym, _∙_}
+use mathlib.Core.Bool.{Bool}
+use mathlib.Core.List.{List}
+use Prim.Native.Nat.{ℕ, _<_}
+use native.Mathlib.Omega.{arith}
+use native.Mathlib.Decide.{decLt}
+use lib.ListN.{getD}
+use lib.Seq.{ext-getD}
+use Rattle.whole.proofs.Cases.{clash}
+use Rattle.clean.proofs.Filled.{rest-at}
+use Rattle.table.specs.Links.{FirstPlace}
+use Rattle.net.specs.Ranks.{Ranks}
+use Rattle.lines.specs.Text.{Printed}
+
+-- what the buffer holds, and where the text ends
+pub printed-one : {out text after after′ : List ℕ} {at stop stop′ : ℕ} → Printed out at text after stop → Printed out at text after′ stop′ → (after ≡ after′) × (stop ≡ stop′)
+printed-one p q = (p .bytes ∙ sym (q .bytes), p .ends ∙ sym (q .ends))
+
+-- each entry told is one number, and the rest is as it was
+pub ranks-one : {f : ℕ → Bool} {n : ℕ} {before x y : List ℕ} → Ranks f n before x → Ranks f n before y → x ≡ y
+ranks-one {n = n} {x = x} {y = y} p q = ext-getD 0 x y (p .long ∙ sym (q .long)) (λ i h. at i (decLt i n))
+  where
+    at : (i : ℕ) → Dec (i < n) → getD x i 0 ≡ getD y i 0
+    at i (yes h) = p .each i h ∙ sym (q .each i h)
+    at i (no k) = rest-at n x y 0 i (p .rest ∙ sym (q .rest)) (omega (arith, k))
+
+-- a first place is not past another
+not-past : {d : Bool} {u v n r s : ℕ} {xs ys : List ℕ} → FirstPlace d u v n xs ys r → FirstPlace d u v n xs ys s → r < s → ⊥
+not-past {r = r} p q h = clash (p .found (omega (arith, h, q .within))) (q .before r h)
+
+pub first-place-one : {d : Bool} {u v n r s : ℕ} {xs ys : List ℕ} → FirstPlace d u v n xs ys r → FirstPlace d u v n xs ys s → r ≡ s
+first-place-one {r = r} {s = s} p q = by (decLt r s) (decLt s r)
+  where
+    by : Dec (r < s) → Dec (s < r) → r ≡ s
+    by (yes h) k = absurd (not-past p q h)
+    by (no h) (yes k) = absurd (not-past q p k)
+    by (no h) (no k) = omega (arith, h, k)
