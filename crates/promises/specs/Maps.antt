@@ -1,7 +1,7 @@
 -- The maps that demand 3 speaks of: what a question sees after a feed, and the map of the feed's last accepted records.
 -- Assumes nothing.
 use lib.ListN.{length}
-use Rattle.table.specs.Feeds.{Kind, Feed, fed, lastsOf}
+use Rattle.table.specs.Feeds.{Kind, Feed, fed, lasts, acceptedBy, lastsOf}
 use Rattle.net.specs.Net.{Net}
 
 module _ {C R S : Type 0} (k : Kind C R S) where
@@ -11,4 +11,4 @@ module _ {C R S : Type 0} (k : Kind C R S) where
 
   -- the map that holds exactly the last accepted record of each link, in the order in which they came: the feed's table has no part in it
   abbrev pub mapOfLasts : Feed R S → Net C
-  mapOfLasts f = record { bound = f .bound; count = length (lastsOf k f); directed = f .directed; room = length (lastsOf k f); marks = f .marks; table = lastsOf k f }
+  mapOfLasts f = record { bound = f .bound; count = length (lastsOf k f); directed = f .directed; room = length (lastsOf k f); marks = f .marks; table = lasts (f .directed) (acceptedBy k f) }
