@@ -4,3 +4,4 @@ pub mod Demand3
 pub mod Agree
 pub mod Exact
 pub mod Helpers
+pub mod Bag

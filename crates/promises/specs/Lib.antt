@@ -2,3 +2,4 @@ pub mod Maps
 pub mod Distance
 pub mod Exact
 pub mod Demand1
+pub mod Bag
