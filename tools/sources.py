@@ -160,7 +160,7 @@ class Definition:
 
     def __init__(self, file, name, line, around):
         self.file, self.name, self.line, self.around = file, name, line, around
-        self.kind, self.lines, self.statement, self.parts = "", [], [], []
+        self.kind, self.lines, self.statement, self.parts, self.public = "", [], [], [], False
 
 
 def module_file(module):
@@ -220,6 +220,7 @@ class File:
             if m and (m.group(2) or re.match(r"(\s*\{[^}]*\})*\s*:(\s|$)", m.group(4))):
                 current = Definition(self.file, m.group(3), number, [a[1] for a in around])
                 current.kind = m.group(2) or ""
+                current.public = bool(re.match(r"\s*(?:(?:abbrev|unfoldable|opaque)\s+)*pub\s", code))
                 for name in {current.name, current.name.strip("_")}:
                     self.defs[name] = current
                 current.statement.append(code)

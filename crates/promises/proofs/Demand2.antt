@@ -1,4 +1,4 @@
--- Demand 2 in terms of walks: what the distances of `dijkstra`, `bellman_ford`, `floyd_warshall` and `johnson` are, and when they are refused.
+-- Demand 2 in terms of walks: what the distances of `dijkstra`, `bellman_ford`, `floyd_warshall`, `johnson` and `hops` are, and when they are refused.
 -- `QUESTION-distances`: after 0 each entry used is a distance (`Distance` in specs/): a number given is the total of a walk, no walk has a lower total, and it is
 -- none exactly without a walk. `dijkstra-six`: 6 exactly when an arc below zero leaves an index in reach of the source. `QUESTION-seven`: 7 exactly when a closed
 -- walk totals below zero: for `bellman_ford` one in reach of its source, for the matrices one anywhere. `bellman-ford-nowhere`: from a source that the map has not,
@@ -6,8 +6,7 @@
 -- The argument: an entry is a least total or none without a walk, by the promise; that none is never a total follows, for `dijkstra`, since no total is below zero,
 -- and otherwise, since a least total has fewer than 1,024 arcs, each of a cost within 32 bits
 -- (`Costs32`, which `costs-32` gives for a lent slice of 32-bit entries).
--- What `a_star` and the f64 search answer is what the pending bag yields: their promises say that themselves, and of `a_star` with an admissible heuristic the
--- theorems in a_star (Gives) say more.
+-- What `a_star` and the f64 search answer is what the pending bag yields (Bag), and of `a_star` with an admissible heuristic the theorems in a_star (Gives) say more.
 -- Assumes nothing.
 use mathlib.Core.Path.{_≡_, ap, _∙_, subst}
 use mathlib.Core.Bool.{Bool, true, false}
@@ -20,7 +19,7 @@ use lib.Signed.{_<ℤ_}
 use lib.ListN.{length, getD, take}
 use Rattle.whole.specs.Zed.{P, N, zed}
 use Rattle.whole.proofs.Cases.{clash, other, and-left}
-use Rattle.clean.specs.None.{noneI64}
+use Rattle.clean.specs.None.{noneI64, noneU32}
 use Rattle.clean.proofs.Filled.{filled-at}
 use Rattle.table.specs.Links.{zip3, Arc}
 use Rattle.table.proofs.Laws as table
@@ -28,7 +27,7 @@ use Rattle.walks.specs.Walk.{Least, NoNeg, NegativeFrom, Negative, Entry}
 use Rattle.walks.specs.Pigeon.{In}
 use Rattle.walks.specs.Near.{Near}
 use Rattle.walks.proofs.Cheap.{least-within}
-use Rattle.net.specs.Net.{Net, netOf, ArcOf, nodesOf, width, wholeNet, insideNet, has}
+use Rattle.net.specs.Net.{Net, netOf, ArcOf, LeadsOf, nodesOf, width, wholeNet, insideNet, has}
 use Rattle.net.proofs.Nodes.{present-in, width-most, member}
 use Rattle.net.proofs.Same.{arc-has}
 use Rattle.pending.specs.Reach.{BadInReach}
@@ -41,7 +40,10 @@ use Rattle.bellman_ford.specs.Promise as bellman
 use Rattle.bellman_ford.proofs.Settles as bellman-laws
 use Rattle.floyd_warshall.specs.Promise as floyd
 use Rattle.johnson.specs.Promise as johnson
-use Rattle.promises.specs.Distance.{Distance, Costs32}
+use Rattle.hops.specs.Steps as steps
+use Rattle.hops.specs.Promise as hops
+use Rattle.hops.proofs.Settles as hops-laws
+use Rattle.promises.specs.Distance.{Distance, Hops, Costs32}
 
 -- ---- costs within 32 bits: those of a slice whose entries are
 -- an arc's cost is an entry of the slice
@@ -143,3 +145,17 @@ module _ {g : Net ℤ} {m m′ : List ℤ} {s s′ : johnson.Scratch} {no : ℕ}
 
   pub johnson-seven : (no ≡ 7) ↔ ((johnson.enough g m s ≡ true) × (insideNet g ≡ true) × Negative (ArcOf g))
   johnson-seven = matrix-laws.seven-exactly p
+
+-- ---- `hops` and `hops_f64`: in row i and column j the number of hops from the i-th node to the j-th; fewer than the map has nodes, so never none
+module _ {C : Type 0} (g : Net C) where
+  few-hops : wholeNet g ≡ true → insideNet g ≡ true → (i v d : ℕ) → i < width g → steps.LeastSteps (LeadsOf g) (getD (nodesOf g) i 0) v d → d < noneU32
+  few-hops whole inside i v d h l = omega (arith, hops-laws.hops-few g inside i v d h l, width-most g, table.whole (g .bound) (g .count) (g .room) (g .marks) whole .indices)
+
+  pub hops-distances : {b e : hops.Buffers} {no p : ℕ} → hops.Promise g b e no p → no ≡ 0 → (i j : ℕ) → i < width g → j < width g → Hops (LeadsOf g) (getD (nodesOf g) i 0) (getD (nodesOf g) j 0) (getD (e .matrix) (i * width g + j) 0)
+  hops-distances (hops.short n c l q) z i j h k = other 1 0 n z (λ y. omega arith)
+  hops-distances (hops.outside n c l x q) z i j h k = other 2 0 n z (λ y. omega arith)
+  hops-distances {e = e} (hops.done n c l x a q) z i j h k = go (getD (e .matrix) (i * width g + j) 0) (a .each i j h k)
+    where
+      go : (d : ℕ) → steps.Entry (LeadsOf g) (getD (nodesOf g) i 0) (getD (nodesOf g) j 0) d → Hops (LeadsOf g) (getD (nodesOf g) i 0) (getD (nodesOf g) j 0) d
+      go d (inl w) = let f = few-hops (and-left (wholeNet g) _ l) x i (getD (nodesOf g) j 0) d h w in record { attained = λ n. w .walk; lowest = w .least; none-exactly = (λ n. absurd (omega arith), λ n. absurd (n d (w .walk))) }
+      go d (inr w) = record { attained = λ n. absurd (n (w .0)); lowest = λ n s. absurd (w .1 n s); none-exactly = (λ n. w .1, λ n. w .0) }
