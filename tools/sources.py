@@ -147,9 +147,23 @@ def crates(root):
     return sorted(d for d in os.listdir(os.path.join(root, "crates")) if os.path.isdir(os.path.join(root, "crates", d)))
 
 
+class Imports:
+    """What the names that a file imports stand for."""
+
+    def __init__(self, names, aliases):
+        self.names, self.aliases = names, aliases
+
+    def get(self, word):
+        """The module and the name that a word stands for."""
+        if word in self.names:
+            return self.names[word]
+        alias, _, name = word.partition(".")
+        return (self.aliases[alias], name) if name and alias in self.aliases else None
+
+
 def ghost_imports(root, file):
-    """What the names in the contracts of a source stand for: name to (module, name)."""
-    return imports(read(os.path.join(root, file)), r"ghost use ", ";")[0]
+    """What the names in the contracts of a source stand for."""
+    return imports(read(os.path.join(root, file)), r"ghost use ", ";")
 
 
 # ---- antt files
@@ -175,7 +189,7 @@ def module_file(module):
 
 
 def imports(text, word=r"use ", end=""):
-    """Names that a file imports, to (module, name), and aliases of modules."""
+    """What a file imports."""
     names, aliases = {}, {}
     for m in re.finditer(r"(?m)^" + word + r"(\S+?)(?:\.\{([^}]*)\}| as (\S+?))?" + end + r"\s*$", text):
         module, listed, alias = m.groups()
@@ -186,7 +200,7 @@ def imports(text, word=r"use ", end=""):
                 names[own] = names[own.strip("_")] = (module, name)
         elif alias:
             aliases[alias] = module
-    return names, aliases
+    return Imports(names, aliases)
 
 
 START = re.compile(r"^(?:(?:abbrev|unfoldable|opaque)\s+)*(?:pub\s+)?(?:(abbrev|unfoldable)\s+)?(?:pub\s+)?(?:(record|data)\s+)?([^\s:(){}]+)(.*)$")
@@ -198,7 +212,7 @@ class File:
     def __init__(self, root, file):
         self.file = file
         self.text = read(os.path.join(root, "crates", file))
-        self.names, self.aliases = imports(self.text)
+        self.imports = imports(self.text)
         self.defs = {}
         self.scan()
 
@@ -266,8 +280,9 @@ class Tree:
         for path in sorted(glob.glob(os.path.join(self.root, "crates", "*", "*", "**", "*.antt"), recursive=True)):
             yield self.file(os.path.relpath(path, os.path.join(self.root, "crates")))
 
-    def found(self, module, name):
-        """The definition that a module has under a name, or what a source declares under it."""
+    def found(self, imported, word):
+        """The definition of ours that an imported word stands for, in an antt file or declared in a source."""
+        module, name = imported.get(word) or ("", "")
         file = module_file(module)
         if file is None:
             return None
@@ -295,13 +310,7 @@ class Tree:
         f = self.file(file)
         if word in f.defs:
             return f.defs[word]
-        if word in f.names:
-            return self.found(*f.names[word])
-        if "." in word:
-            alias, name = word.split(".", 1)
-            if alias in f.aliases:
-                return self.found(f.aliases[alias], name)
-        return None
+        return self.found(f.imports, word)
 
 
 # ---- documents
