@@ -16,7 +16,6 @@ use lib.IntN.{ℤ}
 use lib.Ieee.{Float}
 use lib.ListN.{length, take, set}
 use Rattle.whole.proofs.Cases.{clash, other}
-use Rattle.clean.specs.Fill.{filled}
 use Rattle.float.specs.declared.Cutoff.{Cutoff}
 use Rattle.table.specs.Links.{Link, zip3, placeOf, presentBoth, allInside, lentWhole, tableNo, Place, placeNow, placing}
 use Rattle.table.specs.Lent.{FloatCost, floatCosts, RawCost, roomInts, roomFloats, intsNo, floatsNo, Ints, intsNow, storeInts, putInts, Floats, floatsNow, storeFloats, putFloats}
@@ -26,7 +25,6 @@ use Rattle.table.proofs.Stores.{untouched-ints, untouched-floats}
 use Rattle.walks.specs.Walk.{NegativeFrom, Negative}
 use Rattle.walks.proofs.Walk.{not-both}
 use Rattle.net.specs.Net.{Net, ArcOf, insideNet, has, width, sizeOf}
-use Rattle.rows.specs.Kept.{Kept}
 use Rattle.pending.specs.Setting.{End, refused}
 use Rattle.pending.specs.OnePlace.{begin, Ends}
 use Rattle.pending.specs.Reach.{BadInReach}
