@@ -6,7 +6,8 @@
 -- The argument: an entry is a least total or none without a walk, by the promise; that none is never a total follows, for `dijkstra`, since no total is below zero,
 -- and otherwise, since a least total has fewer than 1,024 arcs, each of a cost within 32 bits
 -- (`Costs32`, which `costs-32` gives for a lent slice of 32-bit entries).
--- What `a_star` and the f64 search answer is what the pending bag yields (Bag), and of `a_star` with an admissible heuristic the theorems in a_star (Gives) say more.
+-- What `a_star` and the f64 search answer is what the pending bag yields (Bag); what a path of `a_star` is beside that, and when it is cheapest, is cited here from
+-- a_star (Gives), and when the page check says yes, from page (Settles).
 -- Assumes nothing.
 use mathlib.Core.Path.{_≡_, ap, _∙_, subst}
 use mathlib.Core.Bool.{Bool, true, false}
@@ -23,7 +24,7 @@ use Rattle.clean.specs.None.{noneI64, noneU32}
 use Rattle.clean.proofs.Filled.{filled-at}
 use Rattle.table.specs.Links.{zip3, Arc}
 use Rattle.table.proofs.Laws as table
-use Rattle.walks.specs.Walk.{Least, NoNeg, NegativeFrom, Negative, Entry}
+use Rattle.walks.specs.Walk.{Walk, Least, NoNeg, NegativeFrom, Negative, Entry}
 use Rattle.walks.specs.Pigeon.{In}
 use Rattle.walks.specs.Near.{Near}
 use Rattle.walks.proofs.Cheap.{least-within}
@@ -40,6 +41,10 @@ use Rattle.bellman_ford.specs.Promise as bellman
 use Rattle.bellman_ford.proofs.Settles as bellman-laws
 use Rattle.floyd_warshall.specs.Promise as floyd
 use Rattle.johnson.specs.Promise as johnson
+use Rattle.a_star.specs.Promise as star
+use Rattle.a_star.proofs.Gives as star-gives
+use Rattle.page.specs.Promise as page
+use Rattle.page.proofs.Settles as page-laws
 use Rattle.hops.specs.Steps as steps
 use Rattle.hops.specs.Promise as hops
 use Rattle.hops.proofs.Settles as hops-laws
@@ -159,3 +164,15 @@ module _ {C : Type 0} (g : Net C) where
       go : (d : ℕ) → steps.Entry (LeadsOf g) (getD (nodesOf g) i 0) (getD (nodesOf g) j 0) d → Hops (LeadsOf g) (getD (nodesOf g) i 0) (getD (nodesOf g) j 0) d
       go d (inl w) = let f = few-hops (and-left (wholeNet g) _ l) x i (getD (nodesOf g) j 0) d h w in record { attained = λ n. w .walk; lowest = w .least; none-exactly = (λ n. absurd (omega arith), λ n. absurd (n d (w .walk))) }
       go d (inr w) = record { attained = λ n. absurd (n (w .0)); lowest = λ n s. absurd (w .1 n s); none-exactly = (λ n. w .1, λ n. w .0) }
+
+-- ---- `a_star`: what a path that is given is, and when there is none (a_star, Gives); what is found, and when, is the bag's (Bag)
+module _ {g : Net ℤ} {q : star.Question} {b e : star.Buffers} {r : star.Answer} (p : star.Promise g q b e r) where
+  pub a-star-path : 0 < r .length → star-gives.Given g q r (star-gives.pathIn e r)
+  a-star-path h = star-gives.given p h
+
+  pub a-star-none : r .number ≡ 0 → (r .length ≡ 0) ↔ ((t : ℤ) → Walk (ArcOf g) (q .source) (q .target) t → ⊥)
+  a-star-none z = star-gives.none-exactly p z
+
+-- ---- the page check: yes exactly of a page that is right, by a question that is not refused
+pub page-yes : {g : Net ℤ} {s : ℕ} {l : List ℤ} {a : page.Answer} → page.Promise g s l a → (a .yes ≡ true) ↔ ((page.enough g l ≡ true) × (insideNet g ≡ true) × (has g s ≡ true) × page.Right (ArcOf g) (g .bound) s l)
+page-yes p = page-laws.yes-exactly p

@@ -1,19 +1,23 @@
 -- The contracts of helpers that state a relation settle the result and the buffers as well: what each relation allows is one thing.
 -- `printed-one`: text that was printed (crates lines, text). `ranks-one`: the ranks of the nodes (net, set_ranks). `first-place-one`: the first place of a link
--- (table, find_link). Of the neighbour lists rows says it (`rows-one`), of the questions each crate's `promise-one`.
+-- (table, find_link). `count-one`: how many pairs a bag holds goes by its content (bag, push_or_lower). Of the neighbour lists rows says it (`rows-one`), of the questions each crate's `promise-one`.
 -- Assumes nothing.
-use mathlib.Core.Path.{_≡_, sym, _∙_}
+use mathlib.Core.Path.{_≡_, refl, sym, ap, _∙_}
 use mathlib.Core.Bool.{Bool}
-use mathlib.Core.List.{List}
-use Prim.Native.Nat.{ℕ, _<_}
+use mathlib.Core.List.{List, [], _∷_}
+use Prim.Native.Nat.{ℕ, zero, suc, _<_}
 use native.Mathlib.Omega.{arith}
 use native.Mathlib.Decide.{decLt}
-use lib.ListN.{getD}
+use lib.ListN.{length, getD}
 use lib.Seq.{ext-getD}
 use Rattle.whole.proofs.Cases.{clash}
 use Rattle.clean.proofs.Filled.{rest-at}
 use Rattle.table.specs.Links.{FirstPlace}
 use Rattle.net.specs.Ranks.{Ranks}
+use Rattle.bag.specs.Keys.{Keys}
+use Rattle.bag.specs.Heap.{held}
+use Rattle.bag.specs.Bag.{Bag}
+use Rattle.bag.specs.Content.{entry, contentOf}
 use Rattle.lines.specs.Text.{Printed}
 
 -- what the buffer holds, and where the text ends
@@ -39,3 +43,24 @@ first-place-one {r = r} {s = s} p q = by (decLt r s) (decLt s r)
     by (yes h) k = absurd (not-past p q h)
     by (no h) (yes k) = absurd (not-past q p k)
     by (no h) (no k) = omega (arith, h, k)
+
+-- places with the same content have as many indices in the bag
+held-one : {K : Type 0} (ps qs : List ℕ) (ks js : List K) → length ks ≡ length ps → length js ≡ length qs → contentOf ps ks ≡ contentOf qs js → held ps ≡ held qs
+unfolding contentOf held
+held-one [] [] ks js l m e = refl
+held-one [] (q ∷ qs) ks [] l m e = absurd (omega arith)
+held-one [] (q ∷ qs) ks (j ∷ js) l m e = absurd (let z : _≡_ {A = ℕ} 0 1 = cc in omega arith)
+held-one (p ∷ ps) [] [] js l m e = absurd (omega arith)
+held-one (p ∷ ps) [] (k ∷ ks) js l m e = absurd (let z : _≡_ {A = ℕ} 0 1 = cc in omega arith)
+held-one (p ∷ ps) (q ∷ qs) [] js l m e = absurd (omega arith)
+held-one (p ∷ ps) (q ∷ qs) (k ∷ ks) [] l m e = absurd (omega arith)
+held-one {K} (p ∷ ps) (q ∷ qs) (k ∷ ks) (j ∷ js) l m e = go p q (let h : entry p k ≡ entry q j = cc in h) (held-one ps qs ks js (omega (arith, l)) (omega (arith, m)) (let t : contentOf ps ks ≡ contentOf qs js = cc in t))
+  where
+    go : (p q : ℕ) → entry p k ≡ entry q j → held ps ≡ held qs → held (p ∷ ps) ≡ held (q ∷ qs)
+    go zero zero h f = f
+    go zero (suc q) h f = absurd (let z : _≡_ {A = ℕ} 0 1 = cc in omega arith)
+    go (suc p) zero h f = absurd (let z : _≡_ {A = ℕ} 0 1 = cc in omega arith)
+    go (suc p) (suc q) h f = ap suc f
+
+pub count-one : {K : Type 0} {o : Keys K} {heap places heap′ places′ : List ℕ} {keys keys′ : List K} {n n′ : ℕ} → Bag o heap places keys n → Bag o heap′ places′ keys′ n′ → contentOf places keys ≡ contentOf places′ keys′ → n ≡ n′
+count-one {places = places} {places′ = places′} {keys = keys} {keys′ = keys′} a b e = a .many ∙ (held-one places places′ keys keys′ (a .long) (b .long) e ∙ sym (b .many))
