@@ -1,6 +1,7 @@
 -- The contracts of helpers that state a relation settle the result and the buffers as well: what each relation allows is one thing.
 -- `printed-one`: text that was printed (crates lines, text). `ranks-one`: the ranks of the nodes (net, set_ranks). `first-place-one`: the first place of a link
--- (table, find_link). `count-one`: how many pairs a bag holds goes by its content (bag, push_or_lower). Of the neighbour lists rows says it (`rows-one`), of the questions each crate's `promise-one`.
+-- (table, find_link). `count-one`: how many pairs a bag holds goes by its content (bag, push_or_lower). Of the neighbour lists rows says it (`rows-one`, and so
+-- `end-rows-one`), of the questions each crate's `promise-one`.
 -- Assumes nothing.
 use mathlib.Core.Path.{_≡_, refl, sym, ap, _∙_}
 use mathlib.Core.Bool.{Bool}
@@ -12,8 +13,10 @@ use lib.ListN.{length, getD}
 use lib.Seq.{ext-getD}
 use Rattle.whole.proofs.Cases.{clash}
 use Rattle.clean.proofs.Filled.{rest-at}
-use Rattle.table.specs.Links.{FirstPlace}
+use Rattle.table.specs.Links.{Link, FirstPlace}
 use Rattle.net.specs.Ranks.{Ranks}
+use Rattle.rows.specs.Rows.{Lists, endLists, Rows}
+use Rattle.rows.proofs.One.{rows-one}
 use Rattle.bag.specs.Keys.{Keys}
 use Rattle.bag.specs.Heap.{held}
 use Rattle.bag.specs.Bag.{Bag}
@@ -43,6 +46,10 @@ first-place-one {r = r} {s = s} p q = by (decLt r s) (decLt s r)
     by (yes h) k = absurd (not-past p q h)
     by (no h) (yes k) = absurd (not-past q p k)
     by (no h) (no k) = omega (arith, h, k)
+
+-- the two slices of a neighbour list without weights
+pub end-rows-one : {A : List (Link Unit)} {m : ℕ} {o h o₁ h₁ o₂ h₂ : List ℕ} → Rows A m (endLists o h) (endLists o₁ h₁) → Rows A m (endLists o h) (endLists o₂ h₂) → (o₁ ≡ o₂) × (h₁ ≡ h₂)
+end-rows-one p q = let e = rows-one p q in (ap (λ (x : Lists Unit). x .offsets) e, ap (λ (x : Lists Unit). x .heads) e)
 
 -- places with the same content have as many indices in the bag
 held-one : {K : Type 0} (ps qs : List ℕ) (ks js : List K) → length ks ≡ length ps → length js ≡ length qs → contentOf ps ks ≡ contentOf qs js → held ps ≡ held qs
