@@ -81,9 +81,11 @@ module _ {C : Type 0} (d : Bool) (m room : ℕ) (marks : List ℕ) (u v n : ℕ)
         inr (clash (table.whole-of-no m n room marks ls t), inr (⊎-elim (clash (table.all-of-no m n room marks ls t)) (clash i), inr (λ z. omega (arith, r, z .1), inl (tt, ap (λ (x : Place). x .no) q, inr (w, k q)))))
 
 module _ (d : Bool) (m : ℕ) (marks : List ℕ) (r : Link ℤ) (n : ℕ) (xs ys : List ℕ) (cs : List ℤ) where
+  -- what `put` answers and leaves
   abbrev ints : Ints
   ints = putInts d m marks r n xs ys cs
 
+  -- where its record goes
   abbrev intsPlace : Place
   intsPlace = placing d m (roomInts xs ys cs) marks (r .a) (r .b) n (zip3 xs ys cs)
 
@@ -110,9 +112,11 @@ module _ (d : Bool) (m : ℕ) (marks : List ℕ) (r : Link ℤ) (n : ℕ) (xs ys
   put-ints-settled p q = p ∙ sym q
 
 module _ (d : Bool) (m : ℕ) (marks : List ℕ) (r : Link RawCost) (n : ℕ) (xs ys bs os : List ℕ) where
+  -- what `put_f64` answers and leaves
   abbrev floats : Floats
   floats = putFloats d m marks r n xs ys bs os
 
+  -- where its record goes
   abbrev floatsPlace : Place
   floatsPlace = placing d m (roomFloats xs ys bs os) marks (r .a) (r .b) n (zip3 xs ys (floatCosts bs os))
 
