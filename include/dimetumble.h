@@ -267,8 +267,9 @@ size_t dimetumble_hops_f64(
 
 /* Checks a page of distances that another program gives. *yes becomes 1 exactly when the source has 0, no arc leads from
  * an index with a distance to one with none or with more than distance plus cost, each other index with a distance has
- * an arc into it that meets it exactly, and every distance is within -2^42 ..= 2^42; else 0. A map without a closed
- * walk below zero in reach of the source has one such page at most where all costs are above zero.
+ * an arc into it, from an index with a distance, that meets it exactly, and every distance is within -2^42 ..= 2^42;
+ * else 0. The distances of dimetumble_bellman_ford get a yes. Beware of loops that total 0: around one, distances can
+ * meet each other without a walk from the source.
  * Gives 0, 1, 2 or 3; after a refusal *yes is 0.
  * page: bound entries. No scratch. */
 size_t dimetumble_page(
