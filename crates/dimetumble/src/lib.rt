@@ -1,4 +1,4 @@
-// The questions and puts as C functions. Each makes the map of its scalars and asks the question of the same name, and promises what that promises.
+// The questions and puts as C functions. Each makes the map of its scalars, asks the question, and promises what that promises.
 // A slice is a pointer and a length. A flag is a byte: 0 is no, any other is yes. What a question gives beside its number is written to a lent place.
 use float::Cutoff;
 use table::Map;
@@ -14,7 +14,7 @@ ghost use Rattle.bellman_ford.specs.Promise as bellman_ford;
 ghost use Rattle.floyd_warshall.specs.Promise as floyd_warshall;
 ghost use Rattle.johnson.specs.Promise as johnson;
 ghost use Rattle.hops.specs.Promise as hops;
-ghost use Rattle.page.specs.Promise as paged;
+ghost use Rattle.page.specs.Promise as page_check;
 ghost use Rattle.dimetumble.specs.Flags.{isSet, limitOf};
 
 // The cutoff: none where the flag is 0.
@@ -248,7 +248,7 @@ pub extern "C" fn dimetumble_dijkstra_path_impl(
     )
 }
 
-// The same under its second name.
+// The same under its second name: the two questions have one promise.
 #[no_mangle]
 pub extern "C" fn dimetumble_dijkstra_path_f64(
     bound: usize,
@@ -273,19 +273,18 @@ pub extern "C" fn dimetumble_dijkstra_path_f64(
 ) -> usize
     ensures { λ r. ⌜ dijkstra_path.Promise (netOf64 bound count (isSet directed) (now (marks .entry)) (now (from .entry)) (now (to .entry)) (now (bits .entry)) (now (opens .entry))) source (limitOf capped cutoff) (dijkstra_path.buffersOf (now (dist .entry)) (now (preds .entry)) (now (offsets .entry)) (now (heads .entry)) (now (weights .entry)) (now (heap .entry)) (now (places .entry)) (now (keys .entry))) (dijkstra_path.buffersOf (now (dist .exit)) (now (preds .exit)) (now (offsets .exit)) (now (heads .exit)) (now (weights .exit)) (now (heap .exit)) (now (places .exit)) (now (keys .exit))) r ⌝ }
 {
-    dijkstra_path::dijkstra_path_f64(
-        Map {
-            bound: bound,
-            count: count,
-            directed: directed != 0,
-        },
+    dimetumble_dijkstra_path_impl(
+        bound,
+        count,
+        directed,
         marks,
         from,
         to,
         bits,
         opens,
         source,
-        limit(capped, cutoff),
+        capped,
+        cutoff,
         dist,
         preds,
         offsets,
@@ -513,7 +512,7 @@ pub extern "C" fn dimetumble_page(
     page: &[i64],
     yes: &mut u8,
 ) -> usize
-    ensures { λ r. ⌜ (paged.Promise (netOf bound count (isSet directed) (now (marks .entry)) (now (from .entry)) (now (to .entry)) (now (costs .entry))) source (now (page .entry)) (paged.answerOf r (isSet (now (yes .exit))))) × (now (yes .exit) ≤ 1) ⌝ }
+    ensures { λ r. ⌜ (page_check.Promise (netOf bound count (isSet directed) (now (marks .entry)) (now (from .entry)) (now (to .entry)) (now (costs .entry))) source (now (page .entry)) (page_check.answerOf r (isSet (now (yes .exit))))) × (now (yes .exit) ≤ 1) ⌝ }
 {
     let checked = page::check(
         Map {
