@@ -1,5 +1,5 @@
 //! Links `libdimetumble.a`. The project's script `tools/native-archive` says where it is, and makes it first where it must; the environment
-//! variable `DIMETUMBLE_ARCHIVE_DIR` names the folder of one that is made already, and then no toolchain but Rust's is needed.
+//! variable `DIMETUMBLE_ARCHIVE_DIR` names the folder (its whole path) of one that is made already, and then no toolchain but Rust's is needed.
 
 use std::env;
 use std::path::Path;
