@@ -23,7 +23,7 @@ module _ {A : Type 0} (show : A → List ℕ) (w : ℕ) (slim : (x : A) → leng
   abbrev pub mostRow : ℕ
   mostRow = width has m * (w + 1) + 25
 
-  row-width : (i : ℕ) → length (rowAt i) ≤ mostRow
+  pub row-width : (i : ℕ) → length (rowAt i) ≤ mostRow
   row-width i =
       let l = drop (width has i * width has m) matrix in
       let t = rowText ++ field (decimalText i) in
