@@ -11,6 +11,8 @@ use Rattle.answers.proofs.answer_floyd_warshall.Reads as answer-floyd-warshall-
 use Rattle.answers.proofs.answer_hops.Reads as answer-hops-reads
 use Rattle.answers.proofs.answer_hops_f64.Reads as answer-hops-f64-reads
 use Rattle.answers.proofs.answer_johnson.Reads as answer-johnson-reads
+use Rattle.sheet.specs.Sheet.{dijkstra, bellmanFord, aStar, floydWarshall, johnson, hops, hops64, dijkstraPath}
+use Rattle.sheet.proofs.Puts.{as-also, is-seven}
 
 -- src/lib.rt:39:18
 cast-source : tie.Need-cast-source
@@ -30,7 +32,7 @@ same-length c = search needs
 
 -- src/lib.rt:42:9
 returns : tie.Need-returns
-returns c = ?
+returns c = as-also (λ t x. dijkstra (c .before .before .before .before .if1 .taken) x) (c .before .before .answer-dijkstra .ensures)
 
 -- src/lib.rt:45:9
 answer-bellman-ford-requires : tie.Need-answer-bellman-ford-requires
@@ -42,7 +44,7 @@ same-length-2 c = search needs
 
 -- src/lib.rt:45:9
 returns-2 : tie.Need-returns-2
-returns-2 c = ?
+returns-2 c = as-also (λ t x. bellmanFord (c .before .before .before .before .if2 .taken) x) (c .before .before .answer-bellman-ford .ensures)
 
 -- src/lib.rt:48:9
 answer-a-star-requires : tie.Need-answer-a-star-requires
@@ -54,7 +56,7 @@ same-length-3 c = search needs
 
 -- src/lib.rt:48:9
 returns-3 : tie.Need-returns-3
-returns-3 c = ?
+returns-3 c = as-also (λ t x. aStar (c .before .before .before .before .if3 .taken) x) (c .before .before .answer-a-star .ensures)
 
 -- src/lib.rt:51:9
 answer-floyd-warshall-requires : tie.Need-answer-floyd-warshall-requires
@@ -66,11 +68,11 @@ same-length-4 c = search needs
 
 -- src/lib.rt:51:9
 returns-4 : tie.Need-returns-4
-returns-4 c = ?
+returns-4 c = as-also (λ t x. floydWarshall (c .before .before .before .before .if4 .taken) x) (c .before .before .answer-floyd-warshall .ensures)
 
 -- src/lib.rt:54:9
 answer-johnson-requires : tie.Need-answer-johnson-requires
-answer-johnson-requires c κs = ?
+answer-johnson-requires c κs = c .before .before .before .before .before .before .before .before .before .before .before .before .before .before .before .before .before .before .before .pre .1
 
 -- src/lib.rt:54:9
 same-length-5 : tie.Need-same-length-5
@@ -78,11 +80,11 @@ same-length-5 c = search needs
 
 -- src/lib.rt:54:9
 returns-5 : tie.Need-returns-5
-returns-5 c = ?
+returns-5 c = as-also (λ t x. johnson (c .before .before .before .before .if5 .taken) x) (c .before .before .answer-johnson .ensures)
 
 -- src/lib.rt:58:13
 answer-hops-f64-requires : tie.Need-answer-hops-f64-requires
-answer-hops-f64-requires c κs = ?
+answer-hops-f64-requires c κs = c .before .before .before .before .before .before .before .before .before .before .before .before .before .before .before .before .before .before .before .before .before .before .pre .1
 
 -- src/lib.rt:58:13
 same-length-6 : tie.Need-same-length-6
@@ -90,11 +92,11 @@ same-length-6 c = search needs
 
 -- src/lib.rt:58:13
 returns-6 : tie.Need-returns-6
-returns-6 c = ?
+returns-6 c = as-also (λ t x. hops64 (c .before .before .before .before .before .if6 .taken) (c .before .before .before .before .if7 .taken) x) (c .before .before .answer-hops-f64 .ensures)
 
 -- src/lib.rt:60:9
 answer-hops-requires : tie.Need-answer-hops-requires
-answer-hops-requires c κs = ?
+answer-hops-requires c κs = c .before .before .before .before .before .before .before .before .before .before .before .before .before .before .before .before .before .before .before .before .before .before .pre .1
 
 -- src/lib.rt:60:9
 same-length-7 : tie.Need-same-length-7
@@ -102,11 +104,11 @@ same-length-7 c = search needs
 
 -- src/lib.rt:60:9
 returns-7 : tie.Need-returns-7
-returns-7 c = ?
+returns-7 c = as-also (λ t x. hops (c .before .before .before .before .before .if6 .taken) (c .before .before .before .before .if7 .left) x) (c .before .before .answer-hops .ensures)
 
 -- src/lib.rt:62:5
 answer-dijkstra-path-requires : tie.Need-answer-dijkstra-path-requires
-answer-dijkstra-path-requires c κs = ?
+answer-dijkstra-path-requires c κs = c .before .before .before .before .before .before .before .before .before .before .before .before .before .before .before .before .before .before .before .before .before .pre .1
 
 -- src/lib.rt:19:1
 same-length-8 : tie.Need-same-length-8
@@ -114,7 +116,9 @@ same-length-8 c = search needs
 
 -- src/lib.rt:19:1
 returns-8 : tie.Need-returns-8
-returns-8 c = ?
+returns-8 c =
+    let w = c .before .before .before .before .before .before .before .before .before .before .before .before .before .before .before .before .before .before .before .before .before .before .before .before .args .w in
+    as-also (λ t x. dijkstraPath (is-seven (w .engine) (w .float) (c .before .before .before .before .before .before .before .before .before .before .before .before .before .before .before .before .before .before .before .before .before .before .before .before .pre .0) (c .before .before .before .before .before .before .before .before .before .before .before .before .before .before .if1 .left) (c .before .before .before .before .before .before .before .before .before .before .before .before .if2 .left) (c .before .before .before .before .before .before .before .before .before .before .if3 .left) (c .before .before .before .before .before .before .before .before .if4 .left) (c .before .before .before .before .before .before .if5 .left) (c .before .before .before .before .if6 .left)) x) (c .before .before .answer-dijkstra-path .ensures)
 
 pub answer-spec : {M : Type 1} → statement M
 answer-spec =

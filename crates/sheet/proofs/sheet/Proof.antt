@@ -6,6 +6,8 @@ use Rattle.sheet.proofs.sheet.Lts as lts
 use Rattle.mapfile.proofs.load.Reads as load-reads
 use Rattle.sheet.proofs.print_sound.Reads as print-sound-reads
 use Rattle.text.proofs.print_bad.Reads as print-bad-reads
+use native.Mathlib.Omega.{arith}
+use Rattle.sheet.proofs.Puts.{sheet-bad, ready, sheet-sound}
 
 -- src/lib.rt:99:9
 slice-aggregate-load : tie.Need-slice-aggregate-load
@@ -41,7 +43,7 @@ print-bad-requires c κs = search needs
 
 -- src/lib.rt:107:9
 returns : tie.Need-returns
-returns c = ?
+returns c = sheet-bad (c .before .before .before .before .before .before .before .before .before .before .before .before .before .before .before .before .before .before .args .file .now) (c .before .before .before .before .before .before .before .before .before .before .load .ensures) (c .before .before .if1 .taken) (omega (arith, c .print-bad .kept)) (c .print-bad .ensures)
 
 -- src/lib.rt:109:20
 slice-aggregate-print-sound : tie.Need-slice-aggregate-print-sound
@@ -69,11 +71,13 @@ slice-aggregate-print-sound-6 c = search needs
 
 -- src/lib.rt:109:5
 print-sound-requires : tie.Need-print-sound-requires
-print-sound-requires c κs = ?
+print-sound-requires c κs =
+    let r = ready (c .before .before .before .before .before .before .before .before .before .before .before .before .before .before .before .before .before .before .before .before .before .before .before .args .file .now) (c .before .before .before .before .before .before .before .before .before .before .before .before .before .before .before .load .ensures) (c .before .before .before .before .before .before .before .if1 .left) in
+    (r .0, r .1, omega (arith, r .1, c .before .before .before .before .before .before .before .before .before .before .before .before .before .before .before .load .kept), omega arith)
 
 -- src/lib.rt:86:1
 returns-2 : tie.Need-returns-2
-returns-2 c = ?
+returns-2 c = sheet-sound (c .before .before .before .before .before .before .before .before .before .before .before .before .before .before .before .before .before .before .before .before .before .before .before .before .args .file .now) (c .before .before .before .before .before .before .before .before .before .before .before .before .before .before .before .before .load .ensures) (c .before .before .before .before .before .before .before .before .if1 .left) (omega (arith, c .print-sound .kept)) (c .print-sound .ensures)
 
 pub sheet-spec : {M : Type 1} → statement M
 sheet-spec =
