@@ -1,8 +1,13 @@
-# make test: the documents against the tree, then the gate. make audit: the documents alone, in seconds (Python 3). make run: proves what stands and runs the programs,
-# without the must-fail edits.
-.PHONY: test audit run
+# make run: proves the program `paths` and prints the sheet of an example.
+# make test: the documents against the tree and the tests of the tools (Python 3), then the gate.
+# make audit: the documents alone, in seconds. make test-doors: the C and the Rust interface (cc, cargo).
+.PHONY: run test audit test-tools test-doors test-c test-rust
 
-test: audit
+run:
+	rt check paths
+	target/bin/paths < examples/maps/carriers.map
+
+test: audit test-tools
 	bash .ci/run
 
 audit:
@@ -11,5 +16,18 @@ audit:
 	tools/believe
 	tools/trace
 
-run:
-	rt check
+test-tools:
+	python3 -m unittest discover -s tests/mapfile
+
+test-doors: test-c test-rust
+
+test-c:
+	python3 tests/c/signatures.py
+	mkdir -p target/c
+	archive=$$(tools/native-archive) && for p in tests/c/doors examples/c/carriers; do \
+	  $(CC) -std=c99 -Wall -Wextra -pedantic -Werror -Iinclude $$p.c "$$archive/libdimetumble.a" -o target/c/$${p##*/} || exit 1; done
+	target/c/doors
+	target/c/carriers | diff - examples/c/carriers.stdout
+
+test-rust:
+	cd bindings/rust && cargo test --offline
