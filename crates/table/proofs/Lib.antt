@@ -1,4 +1,5 @@
 pub mod Laws
+pub mod Plain
 pub mod Joins
 pub mod Arcs
 pub mod Numbers

@@ -87,8 +87,53 @@ pub fn lent_whole(m: usize, n: usize, room: usize, marks: &[u8]) -> bool
     n <= room
 }
 
-// Does each of the first n links name indices that the map has?
-pub fn all_inside(m: usize, n: usize, marks: &[u8], from: &[u16], to: &[u16]) -> bool
+// Are the first n numbers all below the top? Every number is looked at, so that no branch has to be guessed and many are compared at a time.
+fn all_below(top: u16, n: usize, xs: &[u16]) -> bool
+    requires { ⌜ n ≤ length (now xs) ⌝ }
+    ensures { λ r. ⌜ (r ≡ true → (k : ℕ) → k < n → getD (now (xs .entry)) k 0 < top) ⌝ }
+{
+    let mut good = true;
+    let mut j: usize = 0;
+    while j < n {
+        good = good & (xs[j] < top);
+        j += 1;
+    }
+    good
+}
+
+// Is every index below m present?
+fn all_marked(m: usize, marks: &[u8]) -> bool
+    requires { ⌜ m ≤ length (now marks) ⌝ }
+    ensures { λ r. ⌜ (r ≡ true → (k : ℕ) → k < m → getD (now (marks .entry)) k 0 ≡ 0 → ⊥) ⌝ }
+{
+    let mut good = true;
+    let mut i: usize = 0;
+    while i < m {
+        good = good & (marks[i] != 0);
+        i += 1;
+    }
+    good
+}
+
+// Is every index present, and every end below m? What most maps are, and quick to see.
+fn plainly_inside(m: usize, n: usize, marks: &[u8], from: &[u16], to: &[u16]) -> bool
+    requires { ⌜ (m ≤ length (now marks)) × (n ≤ length (now from)) × (n ≤ length (now to)) ⌝ }
+    ensures { λ r. ⌜ (r ≡ true → allInside m (now (marks .entry)) (take n (ends (now (from .entry)) (now (to .entry)))) ≡ true) ⌝ }
+{
+    if Map::INDICES < m {
+        return false;
+    }
+    if !all_marked(m, marks) {
+        return false;
+    }
+    if !all_below(m as u16, n, from) {
+        return false;
+    }
+    all_below(m as u16, n, to)
+}
+
+// Does each of the first n links name indices that the map has? Link by link.
+fn each_inside(m: usize, n: usize, marks: &[u8], from: &[u16], to: &[u16]) -> bool
     requires { ⌜ (m ≤ length (now marks)) × (n ≤ length (now from)) × (n ≤ length (now to)) ⌝ }
     ensures { λ r. ⌜ r ≡ allInside m (now (marks .entry)) (take n (ends (now (from .entry)) (now (to .entry)))) ⌝ }
 {
@@ -103,6 +148,17 @@ pub fn all_inside(m: usize, n: usize, marks: &[u8], from: &[u16], to: &[u16]) ->
         i += 1;
     }
     true
+}
+
+// Does each of the first n links name indices that the map has?
+pub fn all_inside(m: usize, n: usize, marks: &[u8], from: &[u16], to: &[u16]) -> bool
+    requires { ⌜ (m ≤ length (now marks)) × (n ≤ length (now from)) × (n ≤ length (now to)) ⌝ }
+    ensures { λ r. ⌜ r ≡ allInside m (now (marks .entry)) (take n (ends (now (from .entry)) (now (to .entry)))) ⌝ }
+{
+    if plainly_inside(m, n, marks, from, to) {
+        return true;
+    }
+    each_inside(m, n, marks, from, to)
 }
 
 // 1 where a limit is passed or a slice is too short, 2 where a link names an index that the map has not, else 0: for either kind of map, by its room.
