@@ -3,7 +3,7 @@
 use Rattle.table.proofs.all_marked.Statement.{statement}
 use Rattle.table.proofs.all_marked.Tie as tie
 use mathlib.Core.Path.{_≡_}
-use Prim.Native.Nat.{ℕ, _-_, _≤_, _<_}
+use Prim.Native.Nat.{ℕ, _-_, _≤_}
 use native.Mathlib.Omega.{arith}
 use borrow.Author.Needs.{needs}
 use borrow.Author.Tests.{not-true, eqb-false}
