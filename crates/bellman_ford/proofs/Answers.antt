@@ -1,17 +1,18 @@
 -- From what the parts gave to the promise: each answer of `bellman_ford`, over plain lists.
 -- Assumes nothing.
-use mathlib.Core.Path.{_≡_, refl, ap, _∙_}
+use mathlib.Core.Path.{_≡_, refl, sym, ap, _∙_, subst}
 use mathlib.Core.Bool.{Bool, true, false}
 use mathlib.Core.List.{List}
-use Prim.Native.Nat.{ℕ, _≤_}
+use Prim.Native.Nat.{ℕ, _+_, _≤_}
 use lib.IntN.{ℤ, pos}
 use lib.ListN.{length}
 use Rattle.clean.specs.Fill.{filled}
 use Rattle.clean.specs.None.{noneI64}
-use Rattle.clean.proofs.Filled.{filled-at, settle}
+use Rattle.clean.proofs.Filled.{filled-at, filled-same, settle}
 use Rattle.net.specs.Net.{Net, has, sizeOf}
 use Rattle.rows.specs.Kept.{Kept, KeptLists}
-use Rattle.rows.proofs.Kept.{kept-none, kept-more, kept-filled, kept-twice, needs-kept, lists-wiped, wiped-twice}
+use Rattle.rows.specs.Rows.{listsOf}
+use Rattle.rows.proofs.Kept.{kept-none, kept-more, kept-filled, kept-twice, needs-kept, lists-wiped}
 use Rattle.bellman_ford.specs.Promise.{Scratch, Buffers, wipedAll, clear, blank, Promise, unknown, negative, done}
 use Rattle.bellman_ford.specs.Parts.{Room, Ripe, Solved}
 use Rattle.bellman_ford.proofs.Refusals.{Passed}
@@ -41,21 +42,27 @@ module _ {m a : ℕ} {s t : Scratch} where
     lengths = kept-filled 0 (r .lengths) (ap (λ (x : Scratch). x .lengths) e);
   }
 
--- wiped, used, and wiped again
-scratch-twice : {m a : ℕ} (s : Scratch) {t u v : Scratch} → t ≡ wipedAll m a s → KeptScratch m a t u → v ≡ wipedAll m a u → v ≡ wipedAll m a s
-scratch-twice {m} {a} s {t} {u} {v} p k q = λ i. record { rows = r i; queue = w i; queued = x i; lengths = l i }
-  where
-    r : v .rows ≡ wipedAll m a s .rows
-    r = wiped-twice (pos 0) (s .rows) (ap (λ (y : Scratch). y .rows) p) (k .rows) (ap (λ (y : Scratch). y .rows) q)
+  -- after a change of the part used, wiping leaves what it would have left before
+  wiped-same : KeptScratch m a s t → wipedAll m a t ≡ wipedAll m a s
+  wiped-same k = λ i. record {
+    rows = listsOf (filled-same (m + 1) 0 (t .rows .offsets) (s .rows .offsets) (k .rows .offsets .rest) i) (filled-same a 0 (t .rows .heads) (s .rows .heads) (k .rows .heads .rest) i) (filled-same a (pos 0) (t .rows .weights) (s .rows .weights) (k .rows .weights .rest) i);
+    queue = filled-same m 0 (t .queue) (s .queue) (k .queue .rest) i;
+    queued = filled-same m 0 (t .queued) (s .queued) (k .queued .rest) i;
+    lengths = filled-same m 0 (t .lengths) (s .lengths) (k .lengths .rest) i;
+  }
 
-    w : v .queue ≡ filled m 0 (s .queue)
-    w = kept-twice 0 (s .queue) (ap (λ (y : Scratch). y .queue) p) (k .queue) (ap (λ (y : Scratch). y .queue) q)
+-- one change after another
+scratch-more : {m a : ℕ} {s t u : Scratch} → KeptScratch m a s t → KeptScratch m a t u → KeptScratch m a s u
+scratch-more p q = record {
+  rows = record { offsets = kept-more (p .rows .offsets) (q .rows .offsets); heads = kept-more (p .rows .heads) (q .rows .heads); weights = kept-more (p .rows .weights) (q .rows .weights) };
+  queue = kept-more (p .queue) (q .queue);
+  queued = kept-more (p .queued) (q .queued);
+  lengths = kept-more (p .lengths) (q .lengths);
+}
 
-    x : v .queued ≡ filled m 0 (s .queued)
-    x = kept-twice 0 (s .queued) (ap (λ (y : Scratch). y .queued) p) (k .queued) (ap (λ (y : Scratch). y .queued) q)
-
-    l : v .lengths ≡ filled m 0 (s .lengths)
-    l = kept-twice 0 (s .lengths) (ap (λ (y : Scratch). y .lengths) p) (k .lengths) (ap (λ (y : Scratch). y .lengths) q)
+-- the scratch before the search: nothing waits, and no index has a path length
+abbrev pub prepared : ℕ → Scratch → Scratch
+prepared m s = record { rows = s .rows; queue = s .queue; queued = filled m 0 (s .queued); lengths = filled m 0 (s .lengths) }
 
 -- a map that is not refused, and the number a that the code computed
 module _ {g : Net ℤ} {b : Buffers} (ok : Passed g b) {a : ℕ} (is : a ≡ sizeOf g) where
@@ -65,19 +72,26 @@ module _ {g : Net ℤ} {b : Buffers} (ok : Passed g b) {a : ℕ} (is : a ≡ siz
   pub room-first : Room m a (b .scratch)
   room-first = rw is (ok .room)
 
-  -- the distances blank and the scratch cleared, before the search
-  module _ {b₁ : Buffers} (bl : b₁ .dist ≡ filled m noneI64 (b .dist)) (w : b₁ .scratch ≡ wipedAll m a (b .scratch)) where
-    cleared : b₁ .scratch ≡ clear g b
-    cleared = w ∙ ap (λ (n : ℕ). wipedAll m n (b .scratch)) is
+  -- an unknown source: the distances blank and the scratch cleared
+  pub answer-unknown : {s : ℕ} {b₁ : Buffers} → has g s ≡ false → b₁ .dist ≡ filled m noneI64 (b .dist) → b₁ .scratch ≡ wipedAll m a (b .scratch) → Promise g s b b₁ 0
+  answer-unknown f bl w =
+      let e : _ ≡ clear g b = w ∙ ap (λ (n : ℕ). wipedAll m n (b .scratch)) is in
+      unknown refl (ok .long) (ok .inside) f (λ i. record { dist = bl i; scratch = e i })
 
+  -- the distances blank and the scratch prepared, before the search
+  module _ {b₁ : Buffers} (bl : b₁ .dist ≡ filled m noneI64 (b .dist)) (w : b₁ .scratch ≡ prepared m (b .scratch)) where
     kept-first : KeptScratch m (sizeOf g) (b .scratch) (b₁ .scratch)
-    kept-first = scratch-wiped (ok .room) cleared
+    kept-first =
+        subst (KeptScratch m (sizeOf g) (b .scratch)) (sym w)
+        (record {
+          rows = record { offsets = kept-none; heads = kept-none; weights = kept-none };
+          queue = kept-none;
+          queued = kept-filled 0 (ok .room .queued) refl;
+          lengths = kept-filled 0 (ok .room .lengths) refl;
+        })
 
     kept-dist : Kept m (b .dist) (b₁ .dist)
     kept-dist = kept-filled noneI64 (ok .dist) bl
-
-    pub answer-unknown : {s : ℕ} → has g s ≡ false → Promise g s b b₁ 0
-    answer-unknown f = unknown refl (ok .long) (ok .inside) f (λ i. record { dist = bl i; scratch = cleared i })
 
     pub ripe : {s : ℕ} → has g s ≡ true → Ripe g s b₁
     ripe k =
@@ -113,7 +127,7 @@ module _ {g : Net ℤ} {b : Buffers} (ok : Passed g b) {a : ℕ} (is : a ≡ siz
       -- the scratch cleared again
       module _ {r₃ : Scratch} (w₂ : r₃ ≡ wipedAll m a (b₂ .scratch)) where
         clear-again : r₃ ≡ clear g b
-        clear-again = scratch-twice (b .scratch) cleared kept-second (w₂ ∙ ap (λ (n : ℕ). wipedAll m n (b₂ .scratch)) is)
+        clear-again = w₂ ∙ (ap (λ (n : ℕ). wipedAll m n (b₂ .scratch)) is ∙ wiped-same (scratch-more kept-first kept-second))
 
         pub answer-negative : {d₃ : List ℤ} → t ≡ true → d₃ ≡ filled m noneI64 (b₂ .dist) → Promise g s b (record { dist = d₃; scratch = r₃ }) 7
         answer-negative {d₃} y e =

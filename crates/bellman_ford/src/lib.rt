@@ -5,6 +5,7 @@ ghost use mathlib.Core.Bool.{true, false};
 ghost use Prim.Native.Nat.{_≤_, _<_};
 ghost use lib.IntN.{pos};
 ghost use lib.ListN.{length, getD, set};
+ghost use Rattle.clean.specs.Fill.{filled};
 ghost use Rattle.rows.specs.Rows.{listsOf};
 ghost use Rattle.net.specs.Net.{netOf};
 ghost use Rattle.bellman_ford.specs.Promise.{Promise, buffersOf, scratchOf, longEnough, wipedAll};
@@ -297,6 +298,15 @@ fn wipe(
     clean::clear_usize(lengths, m);
 }
 
+// In the part used nothing waits, and no index has a path length.
+fn prepare(m: usize, queued: &mut [usize], lengths: &mut [usize])
+    requires { ⌜ (m ≤ length (now queued)) × (m ≤ length (now lengths)) ⌝ }
+    ensures { λ _. ⌜ (now (queued .exit) ≡ filled m 0 (now (queued .entry))) × (now (lengths .exit) ≡ filled m 0 (now (lengths .entry))) ⌝ }
+{
+    clean::clear_usize(queued, m);
+    clean::clear_usize(lengths, m);
+}
+
 // The neighbour list is made, and the search run on it.
 fn solve(
     map: Map,
@@ -371,10 +381,11 @@ pub fn bellman_ford(
     let m = map.bound;
     let a = net::arc_room(map.directed, map.count);
     clean::blank_i64(dist, m);
-    wipe(m, a, offsets, heads, weights, queue, queued, lengths);
     if !net::has_index(m, marks, source) {
+        wipe(m, a, offsets, heads, weights, queue, queued, lengths);
         return 0;
     }
+    prepare(m, queued, lengths);
     let negative = solve(
         map,
         marks,

@@ -1,4 +1,4 @@
--- Slices of which only the part used changed: one change after another, by a store, by filling, by a neighbour list that was made; and wiped before and after.
+-- Slices of which only the part used changed: one change after another, by a store, by filling, by a neighbour list that was made; and wiped.
 -- Assumes nothing.
 use mathlib.Core.Path.{_≡_, refl, ap, _∙_}
 use mathlib.Core.Bool.{true, false}
@@ -73,19 +73,6 @@ module _ {C : Type 0} where
       heads = kept-filled 0 (n .heads) (ap (λ (l : Lists C). l .heads) e);
       weights = kept-filled z (n .weights) (ap (λ (l : Lists C). l .weights) e);
     }
-
-    -- wiped, used, and wiped again
-    pub wiped-twice : (z : C) (s : Lists C) {t u v : Lists C} → t ≡ wiped m a z s → KeptLists m a t u → v ≡ wiped m a z u → v ≡ wiped m a z s
-    wiped-twice z s {t} {u} {v} p k q = λ i. listsOf (o i) (h i) (w i)
-      where
-        o : v .offsets ≡ filled (m + 1) 0 (s .offsets)
-        o = kept-twice 0 (s .offsets) (ap (λ (l : Lists C). l .offsets) p) (k .offsets) (ap (λ (l : Lists C). l .offsets) q)
-
-        h : v .heads ≡ filled a 0 (s .heads)
-        h = kept-twice 0 (s .heads) (ap (λ (l : Lists C). l .heads) p) (k .heads) (ap (λ (l : Lists C). l .heads) q)
-
-        w : v .weights ≡ filled a z (s .weights)
-        w = kept-twice z (s .weights) (ap (λ (l : Lists C). l .weights) p) (k .weights) (ap (λ (l : Lists C). l .weights) q)
 
     -- room for arcs that are no more than a, and what making their list keeps
     module _ {A : List (Link C)} (few : length A ≤ a) where

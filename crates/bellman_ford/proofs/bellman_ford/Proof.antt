@@ -6,6 +6,7 @@ use mathlib.Core.Path.{sym, _∙_}
 use borrow.Author.Needs.{needs}
 use borrow.Author.Tests.{not-true, not-false}
 use Rattle.net.proofs.Bounds.{whole-ints}
+use Rattle.rows.specs.Rows.{listsOf}
 use Rattle.bellman_ford.proofs.Refusals.{refused, passed}
 use Rattle.bellman_ford.proofs.Answers.{room-first, answer-unknown, ripe, room-second, dist-room, answer-negative, answer-done}
 use Rattle.bellman_ford.proofs.Settles.{promise-kept}
@@ -21,58 +22,66 @@ arc-room-requires c κs =
 blank-i64-requires : tie.Need-blank-i64-requires
 blank-i64-requires c κs = passed _ _ (sym (c .before .before .before .refusal .ensures) ∙ c .before .before .if1 .left) .dist
 
-wipe-requires : tie.Need-wipe-requires
-wipe-requires c κs = let e = c .before .before .before .before .before .before .before .before .before .before in room-first (passed _ _ (sym (e .before .refusal .ensures) ∙ e .if1 .left)) (c .before .before .before .before .before .before .before .before .before .arc-room .ensures)
-
 has-index-requires : tie.Need-has-index-requires
-has-index-requires c κs = let e = c .before .before .before .before .before .before .before .before .before .before .before .before .before .before .before .before .before .before .before .before .before .before in passed _ _ (sym (e .before .refusal .ensures) ∙ e .if1 .left) .marked
+has-index-requires c κs = let e = c .before .before .before .before in passed _ _ (sym (e .before .refusal .ensures) ∙ e .if1 .left) .marked
+
+wipe-requires : tie.Need-wipe-requires
+wipe-requires c κs =
+    let t = c .before .before .before .before .before .before in
+    let e = t .before .before .before .before .before .before in
+    room-first (passed _ _ (sym (e .before .refusal .ensures) ∙ e .if1 .left)) (t .before .before .before .before .before .arc-room .ensures)
 
 returns-2 : tie.Need-returns-2
 returns-2 c =
-    let w = c .before .before .before .before .before .before .before .before .before .before .before .before .before in
-    let e = w .before .before .before .before .before .before .before .before .before .before .before in
-    answer-unknown (passed _ _ (sym (e .before .refusal .ensures) ∙ e .if1 .left)) (w .before .before .before .before .before .before .before .before .before .before .arc-room .ensures) (w .before .before .before .before .before .before .before .before .blank-i64 .ensures) (w .wipe .ensures) (sym (c .before .has-index .ensures) ∙ not-true _ (c .if2 .taken))
+    let t = c .before .before .before .before .before .before .before .before .before .before .before .before .before .before .before .before .before .before in
+    let e = t .before .before .before .before .before .before in
+    answer-unknown (passed _ _ (sym (e .before .refusal .ensures) ∙ e .if1 .left)) (t .before .before .before .before .before .arc-room .ensures) (sym (t .before .has-index .ensures) ∙ not-true _ (t .if2 .taken)) (t .before .before .before .blank-i64 .ensures) (c .before .before .before .before .before .before .before .before .before .before .before .wipe .ensures)
+
+prepare-requires : tie.Need-prepare-requires
+prepare-requires c κs =
+    let e = c .before .before .before .before .before .before .before .before in
+    let r = passed _ _ (sym (e .before .refusal .ensures) ∙ e .if1 .left) .room in
+    (r .queued, r .lengths)
 
 solve-requires : tie.Need-solve-requires
 solve-requires c κs =
-    let h = c .before .before .before .before .before .before .before in
-    let w = h .before .before .before .before .before .before .before .before .before .before .before .before .before in
-    let e = w .before .before .before .before .before .before .before .before .before .before .before in
-    ripe (passed _ _ (sym (e .before .refusal .ensures) ∙ e .if1 .left)) (w .before .before .before .before .before .before .before .before .before .before .arc-room .ensures) (w .before .before .before .before .before .before .before .before .blank-i64 .ensures) (w .wipe .ensures) (sym (h .before .has-index .ensures) ∙ not-false _ (h .if2 .left))
+    let p = c .before .before .before .before .before .before .before .before .before .before .before in
+    let e = p .before .before .before .before .before .before .before .before .before in
+    let v = p .before .before .before .before .before .before .before .before .before .before .before .before .before .before .before .before .before .before .before .before .before .before .before .before .before .before .args in
+    let h = p .before .before .before in
+    ripe (passed _ _ (sym (e .before .refusal .ensures) ∙ e .if1 .left)) (p .before .before .before .before .before .before .before .before .arc-room .ensures) (p .before .before .before .before .before .before .blank-i64 .ensures) (λ i. record { rows = listsOf (v .offsets .now) (v .heads .now) (v .weights .now); queue = v .queue .now; queued = p .prepare .ensures .0 i; lengths = p .prepare .ensures .1 i }) (sym (h .before .has-index .ensures) ∙ not-false _ (h .if2 .left))
 
 wipe-requires-2 : tie.Need-wipe-requires-2
 wipe-requires-2 c κs =
-    let v = c .before .before .before .before .before .before .before .before .before .before .before .before .before .before .before .before .before .before in
-    let h = v .before .before .before .before .before .before .before .before in
-    let w = h .before .before .before .before .before .before .before .before .before .before .before .before .before in
-    let e = w .before .before .before .before .before .before .before .before .before .before .before in
-    room-second (passed _ _ (sym (e .before .refusal .ensures) ∙ e .if1 .left)) (w .before .before .before .before .before .before .before .before .before .before .arc-room .ensures) (w .before .before .before .before .before .before .before .before .blank-i64 .ensures) (w .wipe .ensures) (sym (h .before .has-index .ensures) ∙ not-false _ (h .if2 .left)) (v .solve .ensures)
+    let p = c .before .before .before .before .before .before .before .before .before .before .before .before .before .before .before .before .before .before .before .before .before .before .before .before .before .before .before .before .before .before in
+    let e = p .before .before .before .before .before .before .before .before .before in
+    let v = p .before .before .before .before .before .before .before .before .before .before .before .before .before .before .before .before .before .before .before .before .before .before .before .before .before .before .args in
+    let h = p .before .before .before in
+    room-second (passed _ _ (sym (e .before .refusal .ensures) ∙ e .if1 .left)) (p .before .before .before .before .before .before .before .before .arc-room .ensures) (p .before .before .before .before .before .before .blank-i64 .ensures) (λ i. record { rows = listsOf (v .offsets .now) (v .heads .now) (v .weights .now); queue = v .queue .now; queued = p .prepare .ensures .0 i; lengths = p .prepare .ensures .1 i }) (sym (h .before .has-index .ensures) ∙ not-false _ (h .if2 .left)) (c .before .before .before .before .before .before .before .before .before .before .before .before .before .before .before .before .before .before .solve .ensures)
 
 blank-i64-requires-2 : tie.Need-blank-i64-requires-2
 blank-i64-requires-2 c κs =
-    let v = c .before .before .before .before .before .before .before .before .before .before .before .before .before .before .before .before .before .before .before .before .before .before .before .before .before .before .before .before .before .before .before .before in
-    let h = v .before .before .before .before .before .before .before .before in
-    let w = h .before .before .before .before .before .before .before .before .before .before .before .before .before in
-    let e = w .before .before .before .before .before .before .before .before .before .before .before in
-    dist-room (passed _ _ (sym (e .before .refusal .ensures) ∙ e .if1 .left)) (w .before .before .before .before .before .before .before .before .before .before .arc-room .ensures) (w .before .before .before .before .before .before .before .before .blank-i64 .ensures) (w .wipe .ensures) (sym (h .before .has-index .ensures) ∙ not-false _ (h .if2 .left)) (v .solve .ensures)
+    let p = c .before .before .before .before .before .before .before .before .before .before .before .before .before .before .before .before .before .before .before .before .before .before .before .before .before .before .before .before .before .before .before .before .before .before .before .before .before .before .before .before .before .before .before .before in
+    let e = p .before .before .before .before .before .before .before .before .before in
+    let v = p .before .before .before .before .before .before .before .before .before .before .before .before .before .before .before .before .before .before .before .before .before .before .before .before .before .before .args in
+    let h = p .before .before .before in
+    dist-room (passed _ _ (sym (e .before .refusal .ensures) ∙ e .if1 .left)) (p .before .before .before .before .before .before .before .before .arc-room .ensures) (p .before .before .before .before .before .before .blank-i64 .ensures) (λ i. record { rows = listsOf (v .offsets .now) (v .heads .now) (v .weights .now); queue = v .queue .now; queued = p .prepare .ensures .0 i; lengths = p .prepare .ensures .1 i }) (sym (h .before .has-index .ensures) ∙ not-false _ (h .if2 .left)) (c .before .before .before .before .before .before .before .before .before .before .before .before .before .before .before .before .before .before .before .before .before .before .before .before .before .before .before .before .before .before .before .before .solve .ensures)
 
 returns-3 : tie.Need-returns-3
 returns-3 c =
-    let v = c .before .before .before .before .before .before .before .before .before .before .before .before .before .before .before .before .before .before .before .before .before .before .before .before .before .before .before .before .before .before .before .before .before .before in
-    let h = v .before .before .before .before .before .before .before .before in
-    let w = h .before .before .before .before .before .before .before .before .before .before .before .before .before in
-    let e = w .before .before .before .before .before .before .before .before .before .before .before in
-    answer-negative (passed _ _ (sym (e .before .refusal .ensures) ∙ e .if1 .left)) (w .before .before .before .before .before .before .before .before .before .before .arc-room .ensures) (w .before .before .before .before .before .before .before .before .blank-i64 .ensures) (w .wipe .ensures) (sym (h .before .has-index .ensures) ∙ not-false _ (h .if2 .left)) (v .solve .ensures)
-    (c .before .before .before .before .before .before .before .before .before .before .before .before .before .before .before .wipe2 .ensures) (c .before .before .before .if3 .taken) (c .before .blank-i642 .ensures)
+    let p = c .before .before .before .before .before .before .before .before .before .before .before .before .before .before .before .before .before .before .before .before .before .before .before .before .before .before .before .before .before .before .before .before .before .before .before .before .before .before .before .before .before .before .before .before .before .before in
+    let e = p .before .before .before .before .before .before .before .before .before in
+    let v = p .before .before .before .before .before .before .before .before .before .before .before .before .before .before .before .before .before .before .before .before .before .before .before .before .before .before .args in
+    let h = p .before .before .before in
+    answer-negative (passed _ _ (sym (e .before .refusal .ensures) ∙ e .if1 .left)) (p .before .before .before .before .before .before .before .before .arc-room .ensures) (p .before .before .before .before .before .before .blank-i64 .ensures) (λ i. record { rows = listsOf (v .offsets .now) (v .heads .now) (v .weights .now); queue = v .queue .now; queued = p .prepare .ensures .0 i; lengths = p .prepare .ensures .1 i }) (sym (h .before .has-index .ensures) ∙ not-false _ (h .if2 .left)) (c .before .before .before .before .before .before .before .before .before .before .before .before .before .before .before .before .before .before .before .before .before .before .before .before .before .before .before .before .before .before .before .before .before .before .solve .ensures) (c .before .before .before .before .before .before .before .before .before .before .before .before .before .before .before .wipe2 .ensures) (c .before .before .before .if3 .taken) (c .before .blank-i642 .ensures)
 
 returns-4 : tie.Need-returns-4
 returns-4 c =
-    let v = c .before .before .before .before .before .before .before .before .before .before .before .before .before .before .before .before .before .before .before .before .before .before .before .before .before .before .before .before .before .before .before in
-    let h = v .before .before .before .before .before .before .before .before in
-    let w = h .before .before .before .before .before .before .before .before .before .before .before .before .before in
-    let e = w .before .before .before .before .before .before .before .before .before .before .before in
-    answer-done (passed _ _ (sym (e .before .refusal .ensures) ∙ e .if1 .left)) (w .before .before .before .before .before .before .before .before .before .before .arc-room .ensures) (w .before .before .before .before .before .before .before .before .blank-i64 .ensures) (w .wipe .ensures) (sym (h .before .has-index .ensures) ∙ not-false _ (h .if2 .left)) (v .solve .ensures)
-    (c .before .before .before .before .before .before .before .before .before .before .before .before .wipe2 .ensures) (c .if3 .left)
+    let p = c .before .before .before .before .before .before .before .before .before .before .before .before .before .before .before .before .before .before .before .before .before .before .before .before .before .before .before .before .before .before .before .before .before .before .before .before .before .before .before .before .before .before .before in
+    let e = p .before .before .before .before .before .before .before .before .before in
+    let v = p .before .before .before .before .before .before .before .before .before .before .before .before .before .before .before .before .before .before .before .before .before .before .before .before .before .before .args in
+    let h = p .before .before .before in
+    answer-done (passed _ _ (sym (e .before .refusal .ensures) ∙ e .if1 .left)) (p .before .before .before .before .before .before .before .before .arc-room .ensures) (p .before .before .before .before .before .before .blank-i64 .ensures) (λ i. record { rows = listsOf (v .offsets .now) (v .heads .now) (v .weights .now); queue = v .queue .now; queued = p .prepare .ensures .0 i; lengths = p .prepare .ensures .1 i }) (sym (h .before .has-index .ensures) ∙ not-false _ (h .if2 .left)) (c .before .before .before .before .before .before .before .before .before .before .before .before .before .before .before .before .before .before .before .before .before .before .before .before .before .before .before .before .before .before .before .solve .ensures) (c .before .before .before .before .before .before .before .before .before .before .before .before .wipe2 .ensures) (c .if3 .left)
 
 pub bellman-ford-spec : {M : Type 1} → statement M
 bellman-ford-spec =
@@ -89,8 +98,8 @@ bellman-ford-spec =
     returns
     arc-room-requires
     blank-i64-requires
-    wipe-requires
     has-index-requires
+    wipe-requires
     (λ c. promise-kept (returns-2 c) .0 .long)
     (λ c. promise-kept (returns-2 c) .1 .rows .offsets .long)
     (λ c. promise-kept (returns-2 c) .1 .rows .heads .long)
@@ -99,6 +108,7 @@ bellman-ford-spec =
     (λ c. promise-kept (returns-2 c) .1 .queued .long)
     (λ c. promise-kept (returns-2 c) .1 .lengths .long)
     returns-2
+    prepare-requires
     solve-requires
     wipe-requires-2
     blank-i64-requires-2
