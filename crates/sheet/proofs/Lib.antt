@@ -1,3 +1,4 @@
 pub mod Ends
 pub mod Puts
+pub mod Good
 pub mod Settles
