@@ -1,4 +1,5 @@
 pub mod Ends
 pub mod Puts
 pub mod Good
+pub mod Numbers
 pub mod Settles
