@@ -1,14 +1,17 @@
 -- The sheet is settled: two texts that are allowed for a file are equal, since each engine's promise settles its answer. And engines look at no more of the ask than 01 says.
 -- Assumes nothing.
-use mathlib.Core.Path.{_≡_, sym, ap, _∙_}
+use mathlib.Core.Path.{_≡_, refl, sym, ap, _∙_}
 use mathlib.Core.List.{List}
-use Prim.Native.Nat.{ℕ, _≤_}
+use Prim.Native.Nat.{ℕ, _≤_, _<_}
 use native.Mathlib.Omega.{arith}
+use lib.ListN.{length}
 use Rattle.whole.proofs.Cases.{clash, other}
-use Rattle.mapfile.specs.Load.{State}
-use Rattle.answers.proofs.Settles.{dijkstra-one, bellman-ford-one, a-star-one, floyd-warshall-one, johnson-one, hops-one, dijkstra-path-one}
-use Rattle.text.specs.Text.{soundText}
-use Rattle.sheet.specs.Sheet.{Answer, dijkstra, bellmanFord, aStar, floydWarshall, johnson, hops, hops64, dijkstraPath, Sound, Sheet, bad, sound}
+use Rattle.mapfile.specs.Load.{State, stateOf, brokenAt, startWalk}
+use Rattle.mapfile.proofs.Loads.{overlong}
+use Rattle.answers.specs.Answers.{Written, zeros, zerosI}
+use Rattle.answers.proofs.Settles.{written-one, dijkstra-one, bellman-ford-one, a-star-one, floyd-warshall-one, johnson-one, hops-one, dijkstra-path-one}
+use Rattle.text.specs.Text.{soundText, badText}
+use Rattle.sheet.specs.Sheet.{readFile, Answer, dijkstra, bellmanFord, aStar, floydWarshall, johnson, hops, hops64, dijkstraPath, Sound, Sheet, bad, sound}
 
 module _ {s : State} {engine source target : ℕ} where
   -- the answer
@@ -88,6 +91,17 @@ sheet-one (bad p x) (bad q y) = x ∙ sym y
 sheet-one (bad p x) (sound q y) = other 3 4 p q (λ z. omega arith)
 sheet-one (sound p x) (bad q y) = other 4 3 p q (λ z. omega arith)
 sheet-one (sound p x) (sound q y) = sound-one x y
+
+-- so the function's result and its output are settled
+pub sheet-settled : {file out after after′ : List ℕ} {r r′ : ℕ} → Written (Sheet file) out 0 after r → Written (Sheet file) out 0 after′ r′ → (after ≡ after′) × (r ≡ r′)
+sheet-settled = written-one (λ t t′ x y. sheet-one x y)
+
+-- an overlong file, whatever its bytes are
+pub overlong-sheet : {file text : List ℕ} → 16384 < length file → Sheet file text → text ≡ badText 16384
+overlong-sheet {file} {text} h x = sheet-one x (bad (ap (λ (s : State). s .walk .stage) e) (ap (λ (s : State). badText (s .walk .at)) (sym e)))
+  where
+    e : readFile file ≡ stateOf (brokenAt 16384 startWalk) (zeros 64) (zeros 512) (zeros 512) (zerosI 512) (zeros 512) (zeros 512)
+    e = sym (overlong 16384 file (zeros 64) (zeros 512) (zeros 512) (zerosI 512) (zeros 512) (zeros 512) h refl)
 
 -- ---- what of the ask an engine looks at
 module _ {s : State} {engine source target : ℕ} {t : List ℕ} where

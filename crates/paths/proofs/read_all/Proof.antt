@@ -1,3 +1,5 @@
+-- `paths::read_all` meets its contract: the bytes read lie within the buffer, and the room left falls.
+-- Assumes nothing.
 use borrow.Author.Needs.{needs}
 use mathlib.Core.Path.{_≡_}
 use Prim.Native.Nat.{_-_, _≤_}
@@ -5,10 +7,6 @@ use native.Mathlib.Omega.{arith}
 use lib.ListN.{length}
 use Rattle.paths.proofs.read_all.Statement.{statement}
 use Rattle.paths.proofs.read_all.Tie as tie
-use Rattle.paths.proofs.read_all.Reads as reads
-use Rattle.paths.proofs.read_all.Lts as lts
-use Rattle.io.proofs.count.Reads as count-reads
-use Rattle.libc.proofs.read.Reads as read-reads
 use borrow.Rule.Slice.PartMut.{putMid}
 use Rattle.paths.proofs.Counted.{counted}
 
@@ -18,21 +16,6 @@ Inv-loop buf₀ done₀ buf done = (done ≤ length buf) × (length buf ≡ leng
 abbrev μ-loop : tie.MeasureT-loop
 μ-loop buf₀ done₀ buf done = length buf - done
 
-loop-holds : tie.Need-loop-holds Inv-loop μ-loop
-loop-holds c = search needs
-
-sub-read : tie.Need-sub-read Inv-loop μ-loop
-sub-read c = search needs
-
-part-read-start : tie.Need-part-read-start Inv-loop μ-loop
-part-read-start c = search needs
-
-part-read-end : tie.Need-part-read-end Inv-loop μ-loop
-part-read-end c = search needs
-
-read-requires : tie.Need-read-requires Inv-loop μ-loop
-read-requires c κs = search needs
-
 same-length : tie.Need-same-length Inv-loop μ-loop
 same-length c = search needs
 
@@ -40,30 +23,6 @@ returns : tie.Need-returns Inv-loop μ-loop
 returns c =
     let l = c .before .before .before .before .before .before .loop in
     counted (l .done) (putMid (l .done) (length (l .buf) - l .done) (l .buf) (c .before .before .before .read .last .1 .0)) (omega (arith, same-length c, l .inv .0, l .inv .1))
-
-sub-count : tie.Need-sub-count Inv-loop μ-loop
-sub-count c = search needs
-
-part-count-start : tie.Need-part-count-start Inv-loop μ-loop
-part-count-start c = search needs
-
-part-count-end : tie.Need-part-count-end Inv-loop μ-loop
-part-count-end c = search needs
-
-count-requires : tie.Need-count-requires Inv-loop μ-loop
-count-requires c κs = search needs
-
-add-done : tie.Need-add-done Inv-loop μ-loop
-add-done c = search needs
-
-loop-less : tie.Need-loop-less Inv-loop μ-loop
-loop-less c = search needs
-
-loop-again : tie.Need-loop-again Inv-loop μ-loop
-loop-again c = search needs
-
-same-length-2 : tie.Need-same-length-2 Inv-loop μ-loop
-same-length-2 c = search needs
 
 returns-2 : tie.Need-returns-2 Inv-loop μ-loop
 returns-2 c = counted (c .before .loop .done) (c .before .loop .buf) (c .before .loop .inv .0)
@@ -79,24 +38,6 @@ returns-3 c =
 pub read-all-spec : {M : Type 1} → statement M
 read-all-spec =
     tie.close
-    (tie.spec
-    Inv-loop
-    μ-loop
-    loop-holds
-    sub-read
-    part-read-start
-    part-read-end
-    read-requires
-    same-length
-    returns
-    sub-count
-    part-count-start
-    part-count-end
-    count-requires
-    add-done
-    loop-less
-    loop-again
-    same-length-2
-    returns-2
-    same-length-3
-    returns-3)
+    (tie.spec Inv-loop μ-loop (λ c. search needs) (λ c. search needs) (λ c. search needs) (λ c. search needs) (λ c κs. search needs)
+    same-length returns (λ c. search needs) (λ c. search needs) (λ c. search needs) (λ c κs. search needs) (λ c. search needs)
+    (λ c. search needs) (λ c. search needs) (λ c. search needs) returns-2 same-length-3 returns-3)
