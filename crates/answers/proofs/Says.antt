@@ -30,7 +30,7 @@ use Rattle.text.specs.Asked.{NoNan}
 use Rattle.text.specs.Text.{field, refusedLine, answerText}
 use Rattle.a_star.specs.Promise as star
 use Rattle.dijkstra_path.specs.Promise as path
-use Rattle.answers.specs.Answers.{most}
+use Rattle.answers.specs.Room.{most}
 
 module _ (t : List ℕ) {out after : List ℕ} {at r number : ℕ} where
   -- a refusal

@@ -3,9 +3,9 @@
 -- Assumes nothing.
 use mathlib.Core.Path.{_≡_}
 use mathlib.Core.List.{List}
-use Prim.Native.Nat.{ℕ, _+_, _≤_}
+use Prim.Native.Nat.{ℕ}
 use lib.IntN.{ℤ, pos}
-use lib.ListN.{length, replicate}
+use lib.ListN.{replicate}
 use Rattle.lines.specs.Text.{Printed}
 use Rattle.float.specs.Dist.{zero64}
 use Rattle.float.specs.declared.Cutoff.the-variants.{None}
@@ -19,16 +19,6 @@ use Rattle.floyd_warshall.specs.Promise as floyd
 use Rattle.johnson.specs.Promise as johnson
 use Rattle.hops.specs.Promise as hops
 use Rattle.dijkstra_path.specs.Promise as path
-
--- the most bytes of an answer: 64 rows of 64 distances
-abbrev pub most : ℕ
-most = 91712
-
--- what the functions ask: a map of at most 64 indices, and room for an answer
-pub record Fits (bound : ℕ) (marks out : List ℕ) (at : ℕ) : Type 0 where
-  pub few : bound ≤ 64
-  pub marked : bound ≤ length marks
-  pub room : at + most ≤ length out
 
 -- a text that P allows was printed at a place
 pub record Written (P : List ℕ → Type 0) (out : List ℕ) (at : ℕ) (after : List ℕ) (stop : ℕ) : Type 0 where

@@ -9,7 +9,8 @@ ghost use Rattle.table.specs.Links.{present};
 ghost use Rattle.net.specs.Net.{netOf, netOf64};
 ghost use Rattle.text.specs.Asked.{NoNan};
 ghost use Rattle.text.specs.Text.{distanceText, indexText, distanceLines, pathLines, width, rowLines, treeLines, answerText};
-ghost use Rattle.answers.specs.Answers.{Written, Fits, most, Dijkstra, BellmanFord, AStar, FloydWarshall, Johnson, Hops, DijkstraPath};
+ghost use Rattle.answers.specs.Room.{Fits, most};
+ghost use Rattle.answers.specs.Answers.{Written, Dijkstra, BellmanFord, AStar, FloydWarshall, Johnson, Hops, DijkstraPath};
 use table::Map;
 
 // Puts the refusal, or a line `index distance` for each index that the map has.

@@ -15,7 +15,8 @@ use Rattle.lines.proofs.Places.{printed-more}
 use Rattle.mapfile.specs.Load.{State, engineMay}
 use Rattle.mapfile.proofs.Loads.{loaded-bounded}
 use Rattle.text.specs.Text.{line, engineLine, badText}
-use Rattle.answers.specs.Answers.{Written, most, zeros, zerosI}
+use Rattle.answers.specs.Room.{most}
+use Rattle.answers.specs.Answers.{Written, zeros, zerosI}
 use Rattle.sheet.specs.Sheet.{readFile, Answer, Sound, Sheet, bad, sound}
 use Rattle.sheet.proofs.Ends.{Ended, broken, asks, file-ends}
 

@@ -23,7 +23,7 @@ intMap s = netOf (s .walk .bound) (s .walk .count) (s .walk .directed) (s .marks
 abbrev pub floatMap : State → Net FloatCost
 floatMap s = netOf64 (s .walk .bound) (s .walk .count) (s .walk .directed) (s .marks) (s .from) (s .to) (s .bits) (s .opens)
 
--- the answer of the engine that is asked; the others look at neither source nor target where they don't name them
+-- the answer of the engine that is asked; of source and target an engine sees what its line names
 pub data Answer (s : State) (engine source target : ℕ) (text : List ℕ) : Type 0 where
   dijkstra : engine ≡ 1 → Dijkstra (intMap s) source text → Answer s engine source target text
   bellmanFord : engine ≡ 2 → BellmanFord (intMap s) source text → Answer s engine source target text
