@@ -33,54 +33,51 @@ zeros n = replicate n 0
 abbrev pub zerosI : ℕ → List ℤ
 zerosI n = replicate n (pos 0)
 
--- 1: the distances from the source
-pub record Dijkstra (g : Net ℤ) (source : ℕ) (text : List ℕ) : Type 0 where
+-- the text of what a question gives: a number and what it leaves, as its promise allows, then the lines of that, or the refusal
+pub record Shown {X : Type 0} (gives : ℕ → X → Type 0) (lines : X → List ℕ) (text : List ℕ) : Type 0 where
   pub number : ℕ
-  pub left : dijkstra.Buffers
-  pub promise : dijkstra.Promise g source (dijkstra.buffersOf (zerosI 64) (zeros 65) (zeros 1024) (zerosI 1024) (zeros 64) (zeros 64) (zeros 64) (zerosI 64)) left number
-  pub says : text ≡ answerText number (distanceLines (has g) (g .bound) (left .dist))
+  pub left : X
+  pub promise : gives number left
+  pub says : text ≡ answerText number (lines left)
+
+-- 1: the distances from the source
+abbrev pub Dijkstra : Net ℤ → ℕ → List ℕ → Type 0
+Dijkstra g source =
+    Shown (λ no e. dijkstra.Promise g source (dijkstra.buffersOf (zerosI 64) (zeros 65) (zeros 1024) (zerosI 1024) (zeros 64) (zeros 64) (zeros 64) (zerosI 64)) e no)
+    (λ e. distanceLines (has g) (g .bound) (e .dist))
 
 -- 2: the distances from the source
-pub record BellmanFord (g : Net ℤ) (source : ℕ) (text : List ℕ) : Type 0 where
-  pub number : ℕ
-  pub left : bellman.Buffers
-  pub promise : bellman.Promise g source (bellman.buffersOf (zerosI 64) (zeros 65) (zeros 1024) (zerosI 1024) (zeros 64) (zeros 64) (zeros 64)) left number
-  pub says : text ≡ answerText number (distanceLines (has g) (g .bound) (left .dist))
+abbrev pub BellmanFord : Net ℤ → ℕ → List ℕ → Type 0
+BellmanFord g source =
+    Shown (λ no e. bellman.Promise g source (bellman.buffersOf (zerosI 64) (zeros 65) (zeros 1024) (zerosI 1024) (zeros 64) (zeros 64) (zeros 64)) e no)
+    (λ e. distanceLines (has g) (g .bound) (e .dist))
 
--- 3: the cost and the path from the source to the target, with heuristic 0
-pub record AStar (g : Net ℤ) (source target : ℕ) (text : List ℕ) : Type 0 where
-  pub answer : star.Answer
-  pub left : star.Buffers
-  pub promise : star.Promise g (star.questionOf source target (zerosI 64)) (star.buffersOf (zeros 64) (zeros 65) (zeros 1024) (zerosI 1024) (zerosI 64) (zeros 64) (zeros 64) (zeros 64) (zerosI 64)) left answer
-  pub says : text ≡ answerText (answer .number) (pathLines (answer .cost) (answer .length) (left .path))
+-- 3: the cost and the path from the source to the target, with heuristic 0; x is the cost, the length of the path, and the buffers
+abbrev pub AStar : Net ℤ → ℕ → ℕ → List ℕ → Type 0
+AStar g source target =
+    Shown (λ no (x : ℤ × ℕ × star.Buffers). star.Promise g (star.questionOf source target (zerosI 64)) (star.buffersOf (zeros 64) (zeros 65) (zeros 1024) (zerosI 1024) (zerosI 64) (zeros 64) (zeros 64) (zeros 64) (zerosI 64)) (x .2) (star.answerOf no (x .0) (x .1)))
+    (λ x. pathLines (x .0) (x .1) (x .2 .path))
 
--- 4: the matrix of least totals
-pub record FloydWarshall (g : Net ℤ) (text : List ℕ) : Type 0 where
-  pub number : ℕ
-  pub matrix : List ℤ
-  pub ranks : List ℕ
-  pub promise : floyd.Promise g (zerosI 4096) (zeros 64) matrix ranks number
-  pub says : text ≡ answerText number (rowLines distanceText (has g) (g .bound) matrix)
+-- 4: the matrix of least totals; x is the matrix and the scratch
+abbrev pub FloydWarshall : Net ℤ → List ℕ → Type 0
+FloydWarshall g =
+    Shown (λ no (x : List ℤ × List ℕ). floyd.Promise g (zerosI 4096) (zeros 64) (x .0) (x .1) no)
+    (λ x. rowLines distanceText (has g) (g .bound) (x .0))
 
--- 5: the matrix of least totals
-pub record Johnson (g : Net ℤ) (text : List ℕ) : Type 0 where
-  pub number : ℕ
-  pub matrix : List ℤ
-  pub left : johnson.Scratch
-  pub promise : johnson.Promise g (zerosI 4096) (johnson.scratchOf (zeros 65) (zeros 1024) (zerosI 1024) (zerosI 64) (zerosI 64) (zeros 64) (zeros 64) (zeros 64) (zerosI 64)) matrix left number
-  pub says : text ≡ answerText number (rowLines distanceText (has g) (g .bound) matrix)
+-- 5: the matrix of least totals; x is the matrix and the scratch
+abbrev pub Johnson : Net ℤ → List ℕ → Type 0
+Johnson g =
+    Shown (λ no (x : List ℤ × johnson.Scratch). johnson.Promise g (zerosI 4096) (johnson.scratchOf (zeros 65) (zeros 1024) (zerosI 1024) (zerosI 64) (zerosI 64) (zeros 64) (zeros 64) (zeros 64) (zerosI 64)) (x .0) (x .1) no)
+    (λ x. rowLines distanceText (has g) (g .bound) (x .0))
 
--- 6: the matrix of hops, of either kind of map
-pub record Hops {C : Type 0} (g : Net C) (text : List ℕ) : Type 0 where
-  pub number : ℕ
-  pub count : ℕ
-  pub left : hops.Buffers
-  pub promise : hops.Promise g (hops.buffersOf (zeros 64) (zeros 4096) (zeros 65) (zeros 1024) (zeros 64) (zeros 65)) left number count
-  pub says : text ≡ answerText number (rowLines indexText (has g) (g .bound) (left .matrix))
+-- 6: the matrix of hops, of either kind of map; x is the number of nodes and the buffers
+abbrev pub Hops : {C : Type 0} → Net C → List ℕ → Type 0
+Hops g =
+    Shown (λ no (x : ℕ × hops.Buffers). hops.Promise g (hops.buffersOf (zeros 64) (zeros 4096) (zeros 65) (zeros 1024) (zeros 64) (zeros 65)) (x .1) no (x .0))
+    (λ x. rowLines indexText (has g) (g .bound) (x .1 .matrix))
 
 -- 7: f64 distances and predecessors from the source, without a cutoff
-pub record DijkstraPath (g : Net FloatCost) (source : ℕ) (text : List ℕ) : Type 0 where
-  pub number : ℕ
-  pub left : path.Buffers
-  pub promise : path.Promise g source None (path.buffersOf (replicate 64 zero64) (zeros 64) (zeros 65) (zeros 1024) (zeros 1024) (zeros 64) (zeros 64) (replicate 64 zero64)) left number
-  pub says : text ≡ answerText number (treeLines (has g) (g .bound) (left .dist) (left .preds))
+abbrev pub DijkstraPath : Net FloatCost → ℕ → List ℕ → Type 0
+DijkstraPath g source =
+    Shown (λ no e. path.Promise g source None (path.buffersOf (replicate 64 zero64) (zeros 64) (zeros 65) (zeros 1024) (zeros 1024) (zeros 64) (zeros 64) (replicate 64 zero64)) e no)
+    (λ e. treeLines (has g) (g .bound) (e .dist) (e .preds))

@@ -157,7 +157,7 @@ float-kind e false m h = absurd (clash m (ap (λ (n : ℕ). engineMay n false) h
 abbrev pub Possible : {s : State} {engine source target : ℕ} {text : List ℕ} → Answer s engine source target text → Type 0
 Possible (sheet.dijkstra e x) = In (x .number) (0 ∷ 3 ∷ 6 ∷ [])
 Possible (sheet.bellmanFord e x) = In (x .number) (0 ∷ 7 ∷ [])
-Possible (sheet.aStar e x) = In (x .answer .number) (0 ∷ 3 ∷ 4 ∷ 6 ∷ [])
+Possible (sheet.aStar e x) = In (x .number) (0 ∷ 3 ∷ 4 ∷ 6 ∷ [])
 Possible (sheet.floydWarshall e x) = In (x .number) (0 ∷ 7 ∷ [])
 Possible (sheet.johnson e x) = In (x .number) (0 ∷ 7 ∷ [])
 Possible (sheet.hops e f x) = x .number ≡ 0

@@ -20,7 +20,7 @@ returns c =
     let r = c .before .before .before .before .before .before .before .before .before .before .before .before .before .before .before .a-star in
     let fits : SFits w64 (r .result .cost) = record { sfits = c .before .before .before .struct-told .given .1 .0 .1 } in
     let p = rw (toZ-ofZ w64 (r .result .cost) fits) at (c .before .before .say-path .ensures) in
-    (record { text = _; allowed = record { answer = _; left = _; promise = r .ensures; says = refl }; printed = p .0 }, p .1)
+    (record { text = _; allowed = record { number = _; left = (_, _, _); promise = r .ensures; says = refl }; printed = p .0 }, p .1)
 
 pub answer-a-star-spec : {M : Type 1} → statement M
 answer-a-star-spec =
