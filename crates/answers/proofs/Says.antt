@@ -1,16 +1,16 @@
 -- What is printed of an engine's answer: the refusal after a number, the lines after 0; and what the printing functions ask of it. A path that stands in a buffer is no
 -- longer than the buffer. An f64 distance that is shown is a good key of the pending bag or none, and so not a NaN.
 -- Assumes nothing.
-use mathlib.Core.Path.{_≡_, refl, sym, ap, _∙_}
+use mathlib.Core.Path.{_≡_, refl, ap, _∙_}
 use mathlib.Core.Bool.{false}
 use mathlib.Core.List.{List}
 use mathlib.Core.Option.{Option, none, some}
-use Prim.Native.Nat.{ℕ, _+_, _≤_, _<_}
+use Prim.Native.Nat.{ℕ, _+_, _≤_}
 use native.Mathlib.Omega.{arith}
 use borrow.Author.Tests.{eq-eqb, ne-eqb}
 use lib.Ieee.{Float, nan, isNan}
 use lib.IntN.{ℤ}
-use lib.ListN.{length, getD, length-append, drop}
+use lib.ListN.{length, length-append, drop}
 use Rattle.whole.proofs.Cases.{other}
 use Rattle.clean.specs.Fill.{filled}
 use Rattle.clean.specs.None.{noneU32, noneF64, shown}
@@ -27,7 +27,7 @@ use Rattle.pending.proofs.Stored.{good-dist}
 use Rattle.lines.specs.Text.{Printed, decimalText, newlineText}
 use Rattle.lines.proofs.Digits.{decimal-text-length}
 use Rattle.text.specs.Asked.{NoNan}
-use Rattle.text.specs.Text.{field, refusedLine, answerText}
+use Rattle.text.specs.Text.{refusedLine, answerText}
 use Rattle.a_star.specs.Promise as star
 use Rattle.dijkstra_path.specs.Promise as path
 use Rattle.answers.specs.Room.{most}

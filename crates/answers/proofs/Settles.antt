@@ -22,6 +22,7 @@ use Rattle.answers.specs.Answers.{Written, Shown, Dijkstra, BellmanFord,
 shown-one : {X : Type 0} {gives : ℕ → X → Type 0} {lines : X → List ℕ} {t t′ : List ℕ} → ((no no′ : ℕ) (x y : X) → gives no x → gives no′ y → (no ≡ no′) × (x ≡ y)) → Shown gives lines t → Shown gives lines t′ → t ≡ t′
 shown-one one x y = let p = one (x .number) (y .number) (x .left) (y .left) (x .promise) (y .promise) in x .says ∙ rw (p .0, p .1) (sym (y .says))
 
+-- each engine
 module _ {t t′ : List ℕ} where
   pub dijkstra-one : {g : Net ℤ} {s : ℕ} → Dijkstra g s t → Dijkstra g s t′ → t ≡ t′
   dijkstra-one = shown-one (λ n n′ x y p q. dijkstra-laws.promise-one p q)

@@ -1,14 +1,13 @@
 // The answer of each engine on a map of at most 64 indices and 512 links: one function asks the question on buffers of its own and prints the answer's lines,
 // or the line of a refusal.
-ghost use mathlib.Core.Bool.{false};
 ghost use mathlib.Core.Path.{_≡_};
-ghost use Prim.Native.Nat.{ℕ, _+_, _*_, _≤_};
+ghost use Prim.Native.Nat.{ℕ, _+_, _≤_};
 ghost use lib.ListN.{length};
 ghost use Rattle.lines.specs.Text.{Printed};
 ghost use Rattle.table.specs.Links.{present};
 ghost use Rattle.net.specs.Net.{netOf, netOf64};
 ghost use Rattle.text.specs.Asked.{NoNan};
-ghost use Rattle.text.specs.Text.{distanceText, indexText, distanceLines, pathLines, width, rowLines, treeLines, answerText};
+ghost use Rattle.text.specs.Text.{distanceText, indexText, distanceLines, pathLines, rowLines, treeLines, answerText};
 ghost use Rattle.answers.specs.Room.{Fits, most};
 ghost use Rattle.answers.specs.Answers.{Written, Dijkstra, BellmanFord, AStar, FloydWarshall, Johnson, Hops, DijkstraPath};
 use table::Map;

@@ -2,13 +2,12 @@
 -- a put that is not refused leaves a table that neither 1 nor 2 refuses. So an engine never gives 1 or 2 on it.
 -- Assumes nothing.
 use mathlib.Core.Path.{_≡_, refl, sym, ap, _∙_, subst}
-use mathlib.Core.Bool.{Bool, true, false, cond, not, _&&_}
+use mathlib.Core.Bool.{Bool, true, false, _&&_}
 use mathlib.Core.List.{List}
 use Prim.Native.Nat.{ℕ, zero, suc, _+_, _≤_, _<_}
 use native.Mathlib.Omega.{arith}
 use borrow.Author.Tests.{ltb-true, eqb-true, leb-true}
 use lib.Dec.{ltb, leb, eqb}
-use lib.IntN.{ℤ}
 use lib.ListN.{length, length-set}
 use Rattle.whole.proofs.Cases.{clash, other, by-test, and-left, and-right, not-t}
 use Rattle.clean.proofs.Filled.{filled-length}
@@ -45,9 +44,11 @@ put-good {C} k l d m marks r s g z =
 
 -- ---- what is read
 module _ (s : State) where
+  -- an integer map that neither 1 nor 2 refuses, with room for no more than 512 links
   abbrev pub GoodInts : Type 0
   GoodInts = (intsNo (s .walk .bound) (s .walk .count) (s .marks) (s .from) (s .to) (s .costs) ≡ 0) × (roomInts (s .from) (s .to) (s .costs) ≤ 512)
 
+  -- such an f64 map
   abbrev pub GoodFloats : Type 0
   GoodFloats = (floatsNo (s .walk .bound) (s .walk .count) (s .marks) (s .from) (s .to) (s .bits) (s .opens) ≡ 0) × (roomFloats (s .from) (s .to) (s .bits) (s .opens) ≤ 512)
 
@@ -65,6 +66,7 @@ module _ (s : State) where
 abbrev Fine : State → Type 0
 Fine t = (t .walk .stage ≡ 3 → ⊥) → Good t
 
+-- a map without links is good
 bare-good : (s : State) → s .walk .bound ≤ 1024 → s .walk .bound ≤ length (s .marks) → Bare s → Good s
 bare-good s a b e = record {
   ints = λ _. (ap (λ (n : ℕ). intsNo (s .walk .bound) n (s .marks) (s .from) (s .to) (s .costs)) (e .0) ∙ empty-good (s .walk .bound) _ (s .marks) _ a b, e .1);
@@ -150,7 +152,7 @@ int-room = room-ints (zeros 512) (zeros 512) (zerosI 512) .inFrom
 float-room : roomFloats (zeros 512) (zeros 512) (zeros 512) (zeros 512) ≤ 512
 float-room = room-floats (zeros 512) (zeros 512) (zeros 512) (zeros 512) .inFrom
 
--- the whole file
+-- the whole file, unless a rule is broken
 all-good : (file : List ℕ) → Fine (readFile file)
 unfolding loaded
 all-good file =
@@ -160,5 +162,6 @@ all-good file =
     start : State
     start = stateOf startWalk (zeros 64) (zeros 512) (zeros 512) (zerosI 512) (zeros 512) (zeros 512)
 
+-- a file that ends in its ask
 pub file-good : (file : List ℕ) → readFile file .walk .stage ≡ 4 → Good (readFile file)
 file-good file e = all-good file (λ z. other 4 3 e z (λ w. omega arith))

@@ -49,6 +49,7 @@ unfolding arcRoom
 arcs-few d n h = by-test (λ (a : ℕ). a ≤ 1024) d _ _ (λ _. omega arith) (λ _. omega arith)
 
 module _ (file : List ℕ) (e : readFile file .walk .stage ≡ 4) where
+  -- it has at most 64 indices
   bounded : readFile file .walk .bound ≤ 64
   bounded = loaded-bounded 16384 file (zeros 64) (zeros 512) (zeros 512) (zerosI 512) (zeros 512) (zeros 512)
 
@@ -165,6 +166,7 @@ Possible (sheet.hops64 e f x) = x .number ≡ 0
 Possible (sheet.dijkstraPath e x) = In (x .number) (0 ∷ 3 ∷ 6 ∷ [])
 
 module _ (file : List ℕ) (ask : readFile file .walk .stage ≡ 4) where
+  -- the map's kind has the engine
   may : engineMay (readFile file .walk .engine) (readFile file .walk .float) ≡ true
   may = go (file-ends 16384 file (zeros 64) (zeros 512) (zeros 512) (zerosI 512) (zeros 512) (zeros 512))
     where
