@@ -1,0 +1,1 @@
+pub fn list(_seed: u64) -> String { String::new() }
