@@ -168,7 +168,7 @@ fn check(sheet: &mut Sheet, lent: &Lent, ask: &Ask, before: &[Slice], original: 
 }
 
 /// Does the question name an index past 32 bits?
-fn is_far(ask: &Ask) -> bool {
+pub fn is_far(ask: &Ask) -> bool {
     match ask {
         Ask::Dijkstra { source } | Ask::BellmanFord { source } | Ask::PathImpl { source, .. } | Ask::PathF64 { source, .. } => {
             *source > 1 << 20

@@ -1,0 +1,30 @@
+-- `replay::same::f64s` is safe and ends. The entries left fall.
+-- Assumes nothing.
+use borrow.Author.Needs.{needs}
+use Prim.Native.Nat.{_-_}
+use lib.ListN.{length}
+use Rattle.replay.proofs.same.f64s.Statement.{statement}
+use Rattle.replay.proofs.same.f64s.Tie as tie
+
+abbrev Inv-loop : tie.InvT-loop
+Inv-loop got n list at same₀ place₀ i₀ same place i = Unit {0}
+
+abbrev μ-loop : tie.MeasureT-loop
+μ-loop got n list at same₀ place₀ i₀ same place i = length got - i
+
+pub f64s-spec : {M : Type 1} → statement M
+f64s-spec =
+    tie.close
+    (tie.spec
+    Inv-loop
+    μ-loop
+    (λ c. search needs)
+    (λ c. search needs)
+    (λ c κs. search needs)
+    (λ c. search needs)
+    (λ c. search needs)
+    (λ c κs. search needs)
+    (λ c. search needs)
+    (λ c. search needs)
+    (λ c. search needs)
+    (λ c. search needs))
