@@ -73,7 +73,20 @@ impl Costs {
         use Float as F;
         use Whole as W;
         Costs {
-            whole: d.pick(&[W::Zero, W::Ties, W::Ties, W::Small, W::Small, W::Signed, W::Signed, W::Shifted, W::Shifted, W::Shifted, W::Ends, W::Any]),
+            whole: d.pick(&[
+                W::Zero,
+                W::Ties,
+                W::Ties,
+                W::Small,
+                W::Small,
+                W::Signed,
+                W::Signed,
+                W::Shifted,
+                W::Shifted,
+                W::Shifted,
+                W::Ends,
+                W::Any,
+            ]),
             float: d.pick(&[F::Ties, F::Ties, F::Tenths, F::Tiny, F::Huge, F::Rounding, F::Odd, F::Any]),
             heights: (0..m.max(1)).map(|_| d.below(9) as i64 - 4).collect(),
             bad: d.pick(&[usize::MAX, usize::MAX, usize::MAX, 4, 16, 32]),
@@ -136,7 +149,11 @@ pub fn empty(d: &mut Draw, m: usize, is_f64: bool, room: usize) -> Lent {
     let absent = d.pick(&[usize::MAX, usize::MAX, 8, 3]);
     let mut marks = Slice::new(1, m + d.below(3), || d.word());
     for i in 0..m {
-        let mark = if absent != usize::MAX && d.once_in(absent) { 0 } else { d.pick(&[1, 1, 1, 2, 255]) };
+        let mark = if absent != usize::MAX && d.once_in(absent) {
+            0
+        } else {
+            d.pick(&[1, 1, 1, 2, 255])
+        };
         marks.set(i, mark);
     }
     let directed = d.pick(&[0, 0, 0, 1, 1, 1, 2, 255]);
@@ -144,7 +161,15 @@ pub fn empty(d: &mut Draw, m: usize, is_f64: bool, room: usize) -> Lent {
     if is_f64 {
         costs.push(d.slice(1, room));
     }
-    Lent { bound: m, count: 0, directed, marks, from: d.slice(2, room), to: d.slice(2, room), costs }
+    Lent {
+        bound: m,
+        count: 0,
+        directed,
+        marks,
+        from: d.slice(2, room),
+        to: d.slice(2, room),
+        costs,
+    }
 }
 
 /// A present index mostly, else any number up to a little past the bound.
@@ -255,8 +280,7 @@ fn right_guess(lent: &Lent, target: usize) -> Option<Vec<Option<i64>>> {
     let mut turned = lent.clone();
     std::mem::swap(&mut turned.from, &mut turned.to);
     let outcome = model::outcome(&turned, &Ask::Dijkstra { source: target }, &[usize::MAX; 8]);
-    (outcome.number == 0)
-        .then(|| outcome.outputs[0].iter().map(|&x| (x != NONE_I64).then_some(x as i64)).collect())
+    (outcome.number == 0).then(|| outcome.outputs[0].iter().map(|&x| (x != NONE_I64).then_some(x as i64)).collect())
 }
 
 /// A page: the right one mostly where there is one, with an entry moved, lost, made up or out of range half of the time.
@@ -321,8 +345,14 @@ pub fn asks(d: &mut Draw, lent: &Lent) -> Vec<Ask> {
     if lent.is_f64() {
         let other = index(d, lent);
         return vec![
-            Ask::PathImpl { source, cutoff: cutoff(d, lent, source) },
-            Ask::PathF64 { source: other, cutoff: cutoff(d, lent, other) },
+            Ask::PathImpl {
+                source,
+                cutoff: cutoff(d, lent, source),
+            },
+            Ask::PathF64 {
+                source: other,
+                cutoff: cutoff(d, lent, other),
+            },
             Ask::HopsF64,
         ];
     }
@@ -336,7 +366,10 @@ pub fn asks(d: &mut Draw, lent: &Lent) -> Vec<Ask> {
         Ask::FloydWarshall,
         Ask::Johnson,
         Ask::Hops,
-        Ask::Page { source: other, page: page(d, lent, other) },
+        Ask::Page {
+            source: other,
+            page: page(d, lent, other),
+        },
     ]
 }
 

@@ -106,7 +106,11 @@ impl Lent {
         Link {
             a: self.from.get(i) as usize,
             b: self.to.get(i) as usize,
-            cost: if self.is_f64() { self.costs[0].get(i) } else { self.costs[0].get(i) as i32 as i64 as u64 },
+            cost: if self.is_f64() {
+                self.costs[0].get(i)
+            } else {
+                self.costs[0].get(i) as i32 as i64 as u64
+            },
             open: if self.is_f64() { self.costs[1].get(i) } else { 1 },
         }
     }

@@ -101,10 +101,20 @@ fn plain(lent: &Lent, ask: Ask) -> Ask {
     match ask {
         Ask::AStar { source, target, guess } => {
             let entries: Vec<u64> = (0..lent.bound).map(|i| if lent.is_present(i) { guess.get(i) } else { 0 }).collect();
-            Ask::AStar { source, target, guess: Slice::of(8, &entries, || 0) }
+            Ask::AStar {
+                source,
+                target,
+                guess: Slice::of(8, &entries, || 0),
+            }
         }
-        Ask::PathImpl { source, cutoff } => Ask::PathImpl { source, cutoff: limit(cutoff) },
-        Ask::PathF64 { source, cutoff } => Ask::PathF64 { source, cutoff: limit(cutoff) },
+        Ask::PathImpl { source, cutoff } => Ask::PathImpl {
+            source,
+            cutoff: limit(cutoff),
+        },
+        Ask::PathF64 { source, cutoff } => Ask::PathF64 {
+            source,
+            cutoff: limit(cutoff),
+        },
         other => other,
     }
 }

@@ -14,7 +14,7 @@ use lent::{Answer, Ask, Lent, Link, Slice, NAMES};
 use original::{Original, Reply};
 use std::fmt::Write;
 
-/// How a question was met: how often, with which numbers, and how it ended.
+/// How a question was met: how often, with which numbers, how often with the original, and how it ended.
 #[derive(Clone, Default)]
 struct Row {
     asked: u64,
@@ -57,7 +57,11 @@ fn name(row: usize) -> &'static str {
 
 impl Sheet {
     fn new() -> Sheet {
-        Sheet { rows: vec![Row::default(); PUT_F64 + 1], yes: 0, words: vec![] }
+        Sheet {
+            rows: vec![Row::default(); PUT_F64 + 1],
+            yes: 0,
+            words: vec![],
+        }
     }
 
     fn add(&mut self, other: Sheet) {
@@ -84,7 +88,13 @@ impl Sheet {
 
 /// A map in words, for a difference that is found.
 fn describe(lent: &Lent) -> String {
-    let mut text = format!("bound {} count {} directed {}\n  marks {:?}\n  links", lent.bound, lent.count, lent.directed, lent.marks.entries());
+    let mut text = format!(
+        "bound {} count {} directed {}\n  marks {:?}\n  links",
+        lent.bound,
+        lent.count,
+        lent.directed,
+        lent.marks.entries()
+    );
     for i in 0..lent.count.min(model::room(lent)).min(40) {
         let l = lent.link(i);
         if lent.is_f64() {
@@ -117,16 +127,14 @@ fn describe_answer(answer: &Answer) -> String {
     format!("number {} values {:x?} buffers {}", answer.number, answer.values, buffers.join(" "))
 }
 
-/// What one answer shows by itself, beside the buffers as they were: the number, the values, the outputs' used parts.
+/// Has our answer the original's number, values and outputs, each output in its used part?
 fn is_as_original(answer: &Answer, outcome: &lent::Outcome, ask: &Ask, lent: &Lent) -> bool {
     let needs = model::needs(lent, ask);
     let used = |k: usize| answer.buffers[k].entries()[..needs[k].need].to_vec();
-    answer.number == outcome.number
-        && answer.values == outcome.values
-        && outcome.outputs.iter().enumerate().all(|(k, out)| *out == used(k))
+    answer.number == outcome.number && answer.values == outcome.values && outcome.outputs.iter().enumerate().all(|(k, out)| *out == used(k))
 }
 
-/// Asks one question of the proved functions, the model and, where there is one, the original.
+/// Asks one question of the proved functions, the model and, where one is given, the original.
 fn check(sheet: &mut Sheet, lent: &Lent, ask: &Ask, before: &[Slice], original: Option<&Original>, seed: u64) {
     let row = ask.no();
     let lens: Vec<usize> = before.iter().map(|b| b.len).collect();
@@ -170,9 +178,7 @@ fn check(sheet: &mut Sheet, lent: &Lent, ask: &Ask, before: &[Slice], original: 
 /// Does the question name an index past 32 bits?
 pub fn is_far(ask: &Ask) -> bool {
     match ask {
-        Ask::Dijkstra { source } | Ask::BellmanFord { source } | Ask::PathImpl { source, .. } | Ask::PathF64 { source, .. } => {
-            *source > 1 << 20
-        }
+        Ask::Dijkstra { source } | Ask::BellmanFord { source } | Ask::PathImpl { source, .. } | Ask::PathF64 { source, .. } => *source > 1 << 20,
         Ask::AStar { source, target, .. } => *source.max(target) > 1 << 20,
         _ => false,
     }
@@ -214,7 +220,13 @@ fn check_feed(sheet: &mut Sheet, lent: Lent, feed: &[Link], seed: u64) -> (Lent,
     let row = if lent.is_f64() { PUT_F64 } else { PUT };
     sheet.rows[row].with_original += 1;
     if original.links() != lent.links() {
-        sheet.fail(row, || format!("feed (seed {seed}) left other links than the original's\n  {}\n  {:?}", describe(&lent), original.links()));
+        sheet.fail(row, || {
+            format!(
+                "feed (seed {seed}) left other links than the original's\n  {}\n  {:?}",
+                describe(&lent),
+                original.links()
+            )
+        });
     }
     (lent, original)
 }
@@ -232,13 +244,13 @@ fn size(d: &mut Draw) -> (usize, usize) {
     (m, links)
 }
 
-/// One drawn map of a seed, with all its questions.
+/// The map that a seed draws, with all its questions: a quarter with doubled links, an eighth bad, the rest fed by puts.
 fn check_seed(sheet: &mut Sheet, seed: u64) {
     let d = &mut Draw(seed.wrapping_mul(0xd134_2543_de82_ef95));
     let is_f64 = d.once_in(3);
     let (m, links) = size(d);
     match d.below(8) {
-        // links sent twice, written by hand: the definitions alone decide
+        // tables written by hand, with links twice: the definitions alone decide
         0 | 1 => {
             let lent = draw::doubled(d, m, is_f64, links);
             for ask in draw::asks(d, &lent) {
@@ -317,14 +329,21 @@ fn check_all(sheet: &mut Sheet, m: usize, directed: bool, is_f64: bool, loops: b
         let asks = if is_f64 {
             vec![
                 Ask::PathImpl { source: 0, cutoff: None },
-                Ask::PathF64 { source: 0, cutoff: Some(1.0) },
+                Ask::PathF64 {
+                    source: 0,
+                    cutoff: Some(1.0),
+                },
                 Ask::HopsF64,
             ]
         } else {
             vec![
                 Ask::Dijkstra { source: 0 },
                 Ask::BellmanFord { source: 0 },
-                Ask::AStar { source: 0, target: m - 1, guess: zero },
+                Ask::AStar {
+                    source: 0,
+                    target: m - 1,
+                    guess: zero,
+                },
                 Ask::FloydWarshall,
                 Ask::Johnson,
                 Ask::Hops,
@@ -369,22 +388,56 @@ fn check_limits(sheet: &mut Sheet, part: u64, parts: u64) {
             let is_new = seen.insert(if directed != 0 { (a, b) } else { (a.min(b), a.max(b)) });
             if is_new {
                 let cost = d.below(1000) as i64;
-                let cost = if is_f64 { (cost as f64 / 10.0).to_bits() } else { (cost + heights[a] - heights[b]) as u64 };
+                let cost = if is_f64 {
+                    (cost as f64 / 10.0).to_bits()
+                } else {
+                    (cost + heights[a] - heights[b]) as u64
+                };
                 draw::write(&mut lent, Link { a, b, cost, open: 1 });
             }
         }
         let is_whole = m <= 1024 && count <= 8192;
         let original = is_whole.then(|| Original::new(&lent, &lent.links()));
         for ask in draw::asks(d, &lent) {
-            // the matrix of one more index than allowed would be answered otherwise
             let before = draw::buffers(d, &lent, &ask);
             check(sheet, &lent, &ask, &before, original.as_ref(), k as u64);
         }
         // the next record is refused by 8 in a full table, and one sent again is taken
         let sent = lent.link(0);
         check_put(sheet, &lent, sent, k as u64);
-        let new = (0..nodes.len()).map(|j| (nodes[0], nodes[j])).find(|&(a, b)| !seen.contains(&(a, b))).unwrap();
+        let new = (0..nodes.len())
+            .map(|j| (nodes[0], nodes[j]))
+            .find(|&(a, b)| !seen.contains(&(a, b)))
+            .unwrap();
         check_put(sheet, &lent, Link { a: new.0, b: new.1, ..sent }, k as u64);
+    }
+}
+
+/// Complete maps of the lowest cost: from 13 indices on the original's `floyd_warshall` overflows, and the definition alone decides.
+fn check_overflow(sheet: &mut Sheet, part: u64, parts: u64) {
+    for m in (10..18).filter(|m| m % parts as usize == part as usize) {
+        let d = &mut Draw(m as u64);
+        let mut lent = draw::empty(d, m, false, m * m);
+        lent.directed = 1;
+        for i in 0..m {
+            lent.marks.set(i, 1);
+        }
+        for (a, b) in (0..m).flat_map(|a| (0..m).map(move |b| (a, b))) {
+            draw::write(
+                &mut lent,
+                Link {
+                    a,
+                    b,
+                    cost: i32::MIN as i64 as u64,
+                    open: 1,
+                },
+            );
+        }
+        let original = Original::new(&lent, &lent.links());
+        for ask in draw::asks(d, &lent) {
+            let before = draw::buffers(d, &lent, &ask);
+            check(sheet, &lent, &ask, &before, Some(&original), m as u64);
+        }
     }
 }
 
@@ -393,15 +446,36 @@ fn run(maps: u64, seed: u64, part: u64, parts: u64) -> Sheet {
     let whole = |costs: &[i64]| costs.iter().map(|&c| (c as u64, 1)).collect::<Vec<_>>();
     let s = &mut sheet;
     check_limits(s, part, parts);
+    check_overflow(s, part, parts);
     check_all(s, 1, true, false, true, &whole(&[-1, 0, 1]), part, parts);
-    check_all(s, 2, true, false, true, &whole(&[-2, -1, 0, 1, 2, i32::MIN as i64, i32::MAX as i64]), part, parts);
-    check_all(s, 2, false, false, true, &whole(&[-2, -1, 0, 1, 2, i32::MIN as i64, i32::MAX as i64]), part, parts);
+    check_all(
+        s,
+        2,
+        true,
+        false,
+        true,
+        &whole(&[-2, -1, 0, 1, 2, i32::MIN as i64, i32::MAX as i64]),
+        part,
+        parts,
+    );
+    check_all(
+        s,
+        2,
+        false,
+        false,
+        true,
+        &whole(&[-2, -1, 0, 1, 2, i32::MIN as i64, i32::MAX as i64]),
+        part,
+        parts,
+    );
     check_all(s, 3, true, false, false, &whole(&[-2, -1, 0, 1, 2]), part, parts);
     check_all(s, 3, true, false, true, &whole(&[-1, 0]), part, parts);
     check_all(s, 3, false, false, true, &whole(&[-1, 0, 1, 2]), part, parts);
     check_all(s, 4, false, false, false, &whole(&[0, 1, 2, 3]), part, parts);
-    let floats: Vec<(u64, u64)> =
-        [(0.0f64, 1), (1.0, 1), (0.5, 1), (f64::INFINITY, 1), (-0.0, 1), (f64::NAN, 0)].iter().map(|&(x, o)| (x.to_bits(), o)).collect();
+    let floats: Vec<(u64, u64)> = [(0.0f64, 1), (1.0, 1), (0.5, 1), (f64::INFINITY, 1), (-0.0, 1), (f64::NAN, 0)]
+        .iter()
+        .map(|&(x, o)| (x.to_bits(), o))
+        .collect();
     check_all(s, 3, true, true, false, &floats[..5], part, parts);
     check_all(s, 3, false, true, true, &floats[..4], part, parts);
     check_all(s, 2, true, true, true, &floats, part, parts);
@@ -413,22 +487,30 @@ fn run(maps: u64, seed: u64, part: u64, parts: u64) -> Sheet {
 
 /// The value that follows an option, or a default.
 fn option(args: &[String], name: &str, default: u64) -> u64 {
-    args.iter().position(|a| a == name).map_or(default, |i| args[i + 1].parse().expect("a number"))
+    args.iter()
+        .position(|a| a == name)
+        .map_or(default, |i| args[i + 1].parse().expect("a number"))
 }
 
 fn main() {
-    // where the original's sums overflow it panics; that is expected and told at the end
-    std::panic::set_hook(Box::new(|_| ()));
+    // where the original's sums overflow it panics; that is expected and counted, so only other panics are told
+    std::panic::set_hook(Box::new(|told| {
+        if told.payload().downcast_ref::<&str>() != Some(&original::OVERFLOW) {
+            eprintln!("{told}");
+        }
+    }));
     let args: Vec<String> = std::env::args().collect();
     let seed = option(&args, "--seed", 1);
     if let Some(i) = args.iter().position(|a| a == "--list") {
         std::fs::write(&args[i + 1], list::list(seed)).expect("the list is written");
         return;
     }
-    let maps = option(&args, "--maps", 200_000);
+    let maps = option(&args, "--maps", 300_000);
     let threads = option(&args, "--threads", std::thread::available_parallelism().map_or(1, |n| n.get() as u64));
     let mut sheet = Sheet::new();
-    let parts: Vec<_> = (0..threads).map(|part| std::thread::spawn(move || run(maps, seed, part, threads))).collect();
+    let parts: Vec<_> = (0..threads)
+        .map(|part| std::thread::spawn(move || run(maps, seed, part, threads)))
+        .collect();
     for part in parts {
         match part.join() {
             Ok(more) => sheet.add(more),
@@ -451,7 +533,12 @@ fn report(sheet: &Sheet) {
             // a number that never came up was not compared: that counts as a failure
             failed += (row.by_number[n] == 0) as u64;
         }
-        print!("{}: {} asked, numbers{numbers}; with the original {}", name(k), row.asked, row.with_original);
+        print!(
+            "{}: {} asked, numbers{numbers}; with the original {}",
+            name(k),
+            row.asked,
+            row.with_original
+        );
         if row.overflows > 0 {
             print!(", {} more where its sums overflow", row.overflows);
         }

@@ -19,7 +19,11 @@ pub struct Buffer {
 }
 
 fn output(width: usize, need: usize, none: u64) -> Buffer {
-    Buffer { width, need, none: Some(none) }
+    Buffer {
+        width,
+        need,
+        none: Some(none),
+    }
 }
 
 fn scratch(width: usize, need: usize) -> Buffer {
@@ -264,11 +268,8 @@ fn is_page_right(m: usize, arcs: &[Arc], source: usize, page: &[Option<i128>]) -
     page[source] == Some(0)
         && page.iter().flatten().all(|d| (-range..=range).contains(d))
         && arcs.iter().all(|&(u, v, c)| page[u].is_none_or(|d| page[v].is_some_and(|e| e <= d + c)))
-        && (0..m).all(|v| {
-            v == source
-                || page[v].is_none()
-                || arcs.iter().any(|&(u, to, c)| to == v && page[u].is_some_and(|d| Some(d + c) == page[v]))
-        })
+        && (0..m)
+            .all(|v| v == source || page[v].is_none() || arcs.iter().any(|&(u, to, c)| to == v && page[u].is_some_and(|d| Some(d + c) == page[v])))
 }
 
 /// What a question gives after its refusals 1 to 5.
@@ -277,7 +278,11 @@ fn solve(lent: &Lent, ask: &Ask) -> Outcome {
     let nodes = lent.nodes();
     let p = nodes.len();
     let done = |values: Vec<u64>, outputs: Vec<Vec<u64>>| Outcome { number: 0, values, outputs };
-    let refused = |number: usize, values: Vec<u64>| Outcome { number, values, outputs: vec![] };
+    let refused = |number: usize, values: Vec<u64>| Outcome {
+        number,
+        values,
+        outputs: vec![],
+    };
     match ask {
         Ask::Dijkstra { source } => {
             let arcs = whole_arcs(lent);
@@ -338,8 +343,9 @@ fn solve(lent: &Lent, ask: &Ask) -> Outcome {
             done(vec![p as u64], vec![nodes.iter().map(|&u| u as u64).collect(), matrix])
         }
         Ask::Page { source, page } => {
-            let page: Vec<Option<i128>> =
-                (0..m).map(|i| Some(page.get(i)).filter(|&d| d != NONE_I64).map(|d| d as i64 as i128)).collect();
+            let page: Vec<Option<i128>> = (0..m)
+                .map(|i| Some(page.get(i)).filter(|&d| d != NONE_I64).map(|d| d as i64 as i128))
+                .collect();
             done(vec![is_page_right(m, &whole_arcs(lent), *source, &page) as u64], vec![])
         }
         Ask::PathImpl { source, cutoff } | Ask::PathF64 { source, cutoff } => {
@@ -396,11 +402,7 @@ fn early(lent: &Lent, ask: &Ask, lens: &[usize]) -> usize {
         }
         Ask::AStar { source, .. } if !lent.is_present(*source) => 3,
         Ask::AStar { target, .. } if !lent.is_present(*target) => 4,
-        Ask::AStar { guess, .. }
-            if lent.nodes().iter().any(|&i| !(-RANGE..=RANGE).contains(&(guess.get(i) as i64))) =>
-        {
-            5
-        }
+        Ask::AStar { guess, .. } if lent.nodes().iter().any(|&i| !(-RANGE..=RANGE).contains(&(guess.get(i) as i64))) => 5,
         _ => 0,
     }
 }
@@ -415,7 +417,11 @@ pub fn needs(lent: &Lent, ask: &Ask) -> Vec<Buffer> {
 pub fn outcome(lent: &Lent, ask: &Ask, lens: &[usize]) -> Outcome {
     match early(lent, ask, lens) {
         0 => solve(lent, ask),
-        number => Outcome { number, values: refused_values(ask), outputs: vec![] },
+        number => Outcome {
+            number,
+            values: refused_values(ask),
+            outputs: vec![],
+        },
     }
 }
 
@@ -434,7 +440,11 @@ pub fn answer(lent: &Lent, ask: &Ask, before: &[Slice], outcome: &Outcome) -> An
             }
         }
     }
-    Answer { number: outcome.number, values: outcome.values.clone(), buffers }
+    Answer {
+        number: outcome.number,
+        values: outcome.values.clone(),
+        buffers,
+    }
 }
 
 /// Put: the number and the map after it.
@@ -446,9 +456,7 @@ pub fn put(lent: &Lent, record: Link) -> (usize, Lent) {
         return (2, lent.clone());
     }
     let mut after = lent.clone();
-    let is_same = |l: &Link| {
-        (l.a, l.b) == (record.a, record.b) || lent.directed == 0 && (l.b, l.a) == (record.a, record.b)
-    };
+    let is_same = |l: &Link| (l.a, l.b) == (record.a, record.b) || lent.directed == 0 && (l.b, l.a) == (record.a, record.b);
     let place = match lent.links().iter().position(is_same) {
         Some(place) => place,
         None if lent.count == room(lent) => return (8, after),

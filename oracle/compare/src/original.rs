@@ -7,6 +7,9 @@ use graphina::core::types::{BaseGraph, Directed, GraphConstructor, GraphinaGraph
 use petgraph::graph::NodeIndex;
 use std::panic::{catch_unwind, AssertUnwindSafe};
 
+/// What a sum says that overflows.
+pub const OVERFLOW: &str = "attempt to add with overflow";
+
 /// A cost with its open mark, as the original's closure sees a link of an f64 map.
 #[derive(Clone, Copy, Debug)]
 pub struct Marked {
@@ -47,7 +50,12 @@ fn table<W, Ty: GraphConstructor<u32, W>>(graph: &BaseGraph<u32, W, Ty>, link: i
         .edges()
         .map(|(a, b, w)| {
             let (cost, open) = link(w);
-            Link { a: a.index(), b: b.index(), cost, open }
+            Link {
+                a: a.index(),
+                b: b.index(),
+                cost,
+                open,
+            }
         })
         .collect()
 }
@@ -56,9 +64,16 @@ impl Original {
     /// The graph that the original makes of a feed. The links of the last table that are open feed the second f64 graph.
     pub fn new(lent: &Lent, feed: &[Link]) -> Original {
         let whole = |l: &Link| l.cost as i64;
-        let marked = |l: &Link| Marked { bits: l.cost, open: l.open as u8 };
+        let marked = |l: &Link| Marked {
+            bits: l.cost,
+            open: l.open as u8,
+        };
         let float = |l: &Link| f64::from_bits(l.cost);
-        let open: Vec<Link> = if lent.is_f64() { lent.links().into_iter().filter(|l| l.open != 0).collect() } else { vec![] };
+        let open: Vec<Link> = if lent.is_f64() {
+            lent.links().into_iter().filter(|l| l.open != 0).collect()
+        } else {
+            vec![]
+        };
         match (lent.is_f64(), lent.directed != 0) {
             (false, true) => Original::Directed(fed(lent, feed, whole)),
             (false, false) => Original::Undirected(fed(lent, feed, whole)),
@@ -92,10 +107,14 @@ impl Original {
             Ok(None) => Reply::HasNoSuchQuestion,
             Err(cause) => {
                 let text = cause.downcast_ref::<&str>().copied().unwrap_or("");
-                if text == "attempt to add with overflow" && matches!(ask, Ask::FloydWarshall) {
+                if text == OVERFLOW && matches!(ask, Ask::FloydWarshall) {
                     Reply::Overflows
                 } else {
-                    Reply::Gives(Outcome { number: usize::MAX, values: vec![], outputs: vec![] })
+                    Reply::Gives(Outcome {
+                        number: usize::MAX,
+                        values: vec![],
+                        outputs: vec![],
+                    })
                 }
             }
         }
@@ -114,7 +133,11 @@ fn done(values: Vec<u64>, outputs: Vec<Vec<u64>>) -> Option<Outcome> {
 }
 
 fn refused(number: usize, values: Vec<u64>) -> Option<Outcome> {
-    Some(Outcome { number, values, outputs: vec![] })
+    Some(Outcome {
+        number,
+        values,
+        outputs: vec![],
+    })
 }
 
 /// The number of an error: 6 for a cost, 3 and 4 for a node by the word of the message.
@@ -130,7 +153,9 @@ fn number(error: &GraphinaError) -> usize {
 fn by_index<T>(lent: &Lent, map: &NodeMap<Option<T>>, none: u64, show: impl Fn(&T) -> u64) -> Vec<u64> {
     let present = lent.nodes().len();
     assert!(map.len() == present, "a node map has {} entries, not {present}", map.len());
-    (0..lent.bound).map(|i| map.get(&id(i)).and_then(|x| x.as_ref()).map_or(none, &show)).collect()
+    (0..lent.bound)
+        .map(|i| map.get(&id(i)).and_then(|x| x.as_ref()).map_or(none, &show))
+        .collect()
 }
 
 fn matrix(lent: &Lent, map: &NodeMap<NodeMap<Option<i64>>>) -> Vec<u64> {
@@ -191,9 +216,7 @@ where
     BaseGraph<u32, f64, Ty>: GraphinaGraph<u32, f64>,
 {
     let found = match ask {
-        Ask::PathImpl { source, cutoff } => {
-            paths::dijkstra_path_impl(graph, id(*source), *cutoff, |w| (w.open != 0).then(|| f64::from_bits(w.bits)))
-        }
+        Ask::PathImpl { source, cutoff } => paths::dijkstra_path_impl(graph, id(*source), *cutoff, |w| (w.open != 0).then(|| f64::from_bits(w.bits))),
         Ask::PathF64 { source, cutoff } => paths::dijkstra_path_f64(open, id(*source), *cutoff),
         Ask::HopsF64 => return hops(graph),
         _ => return None,

@@ -5,7 +5,7 @@ type In = *const u8;
 type Out = *mut u8;
 
 #[rustfmt::skip]
-unsafe extern "C" {
+extern "C" {
     fn dimetumble_put(bound: usize, count: *mut usize, directed: u8, marks: In, _: usize, from: Out, _: usize, to: Out, _: usize,
         costs: Out, _: usize, a: u16, b: u16, cost: i32) -> usize;
     fn dimetumble_put_f64(bound: usize, count: *mut usize, directed: u8, marks: In, _: usize, from: Out, _: usize, to: Out, _: usize,
