@@ -82,10 +82,15 @@ static void fail(const char *who, const char *what) {
     exit(1);
 }
 
-static double now(void) {
+/* Microseconds by a clock of the system. */
+static double now(clockid_t clock) {
     struct timespec t;
-    clock_gettime(CLOCK_MONOTONIC, &t);
+    clock_gettime(clock, &t);
     return t.tv_sec * 1e6 + t.tv_nsec * 1e-3;
+}
+
+static int all_pairs(enum question question) {
+    return question == FLOYD_WARSHALL || question == JOHNSON || question == HOPS;
 }
 
 /* ---- maps */
@@ -257,13 +262,16 @@ static void check(const char *who, enum question question, size_t q) {
 
 /* ---- measuring */
 
-/* One call: timed, told, checked. */
+/* One call: timed, told, checked. A long call is timed by the processor time of this thread (no library
+   starts another), so that being set aside for other programs does not count; that clock is too slow to
+   read for a short call, which the median protects. */
 static double call(struct rival *rival, const struct measure *measure, size_t q) {
+    clockid_t clock = all_pairs(measure->question) ? CLOCK_THREAD_CPUTIME_ID : CLOCK_MONOTONIC;
     queries[q].question = measure->question;
     queries[q].guess = measure->guided ? guesses[q] : no_guess;
-    double start = now();
+    double start = now(clock);
     enum outcome outcome = rival->is->ask(rival->graph, &queries[q]);
-    double end = now();
+    double end = now(clock);
     if (outcome == REFUSED) fail(rival->name, "a refusal");
     if (outcome == LACKED) {
         rival->lacks = 1;
@@ -273,10 +281,6 @@ static double call(struct rival *rival, const struct measure *measure, size_t q)
     rival->is->tell(rival->graph, &queries[q], &given);
     check(rival->name, measure->question, q);
     return end - start;
-}
-
-static int all_pairs(enum question question) {
-    return question == FLOYD_WARSHALL || question == JOHNSON || question == HOPS;
 }
 
 /* One turn of one library: where a call is quick, a call that only warms the caches and then several. */
@@ -300,8 +304,8 @@ static void run_case(FILE *out, const struct measure *measure, double spend) {
     asking = measure->name;
     memset(known, 0, sizeof known);
     for (size_t r = 0; r < rival_count; r++) rivals[r].calls = rivals[r].lacks = 0;
-    double start = now();
-    for (size_t t = 0; t < MOST && (t < LEAST || now() - start < spend * 1e6); t++)
+    double start = now(CLOCK_MONOTONIC);
+    for (size_t t = 0; t < MOST && (t < LEAST || now(CLOCK_MONOTONIC) - start < spend * 1e6); t++)
         for (size_t i = 0; i < rival_count; i++) {
             struct rival *rival = &rivals[(i + t) % rival_count];
             if (!rival->lacks) turn(rival, measure, t);

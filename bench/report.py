@@ -196,7 +196,7 @@ MAPS = """\
 Costs are drawn from 1 to 1,000, f64 costs from the numbers up to 1,100 in steps of 10^-9. *random*: 8 links for each index (and 1, 2, 4 at 1,024 indices); *dense*: every pair, as far as 8,192 links go; *line*: each index to the next; *grid*: a square, directed maps with a link each way; *negative*: random, with heights added at one end of each link and taken at the other, so that many costs are below zero and no loop is. Sixteen sources and targets cycle. A* is asked with heuristic 0 and, as *guided*, with half the cost that is left to the target. The cutoff is half the greatest distance."""
 
 METHOD = """\
-The libraries take turns in one process: in a turn one call that warms the caches, then four that are timed (of all-pairs questions one, timed). A figure is the median of all its timed calls, in microseconds. A ratio is our median divided by the other's: below 1 ours is faster. Every answer of every call is checked: distances, f64 distances (bit for bit), costs and matrices are equal across the libraries, each path and each predecessor adds up; the first difference ends the run with an error."""
+The libraries take turns in one process: in a turn one call that warms the caches, then four that are timed (of all-pairs questions one, timed). A figure is the median of all its timed calls, in microseconds: by the clock on the wall, of the long all-pairs calls by the processor time of the one thread. A ratio is our median divided by the other's: below 1 ours is faster. Every answer of every call is checked: distances, f64 distances (bit for bit), costs and matrices are equal across the libraries, each path and each predecessor adds up; the first difference ends the run with an error."""
 
 
 def page(folder, maps, calls):
