@@ -18,6 +18,7 @@
 #define LEAST 3      /* turns of each library in every case */
 #define MOST 400     /* turns at most */
 
+/* A library in the run, and its times in the case at hand. */
 struct rival {
     char name[32];
     const struct contender *is;
@@ -31,12 +32,14 @@ struct rival rivals[16];
 size_t rival_count;
 double seconds; /* to spend on one case */
 
+/* the map at hand, its kind, and what is being asked */
 uint16_t from[LINKS], to[LINKS];
 int32_t costs[LINKS];
 double lengths[LINKS];
 struct map map = {0, 0, 0, from, to, costs, lengths};
 const char *kind, *asking;
 
+/* the queries on it, with their heuristics and pages */
 struct query queries[QUERIES];
 int64_t guesses[QUERIES][INDICES], pages[QUERIES][INDICES];
 static const int64_t no_guess[INDICES];
@@ -50,6 +53,7 @@ int known[QUERIES];
 int64_t expected_cost[QUERIES], expected_whole[INDICES * INDICES];
 double expected_real[QUERIES][INDICES];
 
+/* the last answer */
 int64_t given_whole[INDICES * INDICES];
 double given_real[INDICES];
 uint32_t given_nodes[INDICES];
@@ -76,6 +80,7 @@ static const struct measure MEASURES[] = {
     {"put, new link", PUT_NEW, 0},
 };
 
+/* Ends the run. */
 static void fail(const char *who, const char *what) {
     fprintf(stderr, "bench: %s: %s (%s: %s, %s, %zu indices, %zu links)\n", who, what, asking, kind,
             map.directed ? "directed" : "undirected", map.bound, map.count);
@@ -89,6 +94,7 @@ static double now(clockid_t clock) {
     return t.tv_sec * 1e6 + t.tv_nsec * 1e-3;
 }
 
+/* The questions whose calls are long. */
 static int all_pairs(enum question question) {
     return question == FLOYD_WARSHALL || question == JOHNSON || question == HOPS;
 }
@@ -97,6 +103,7 @@ static int all_pairs(enum question question) {
 
 static uint64_t state;
 
+/* A random number, the same in every run. */
 static uint64_t draw(uint64_t below) {
     state ^= state << 13;
     state ^= state >> 7;
@@ -104,6 +111,7 @@ static uint64_t draw(uint64_t below) {
     return state % below;
 }
 
+/* A link at the table's end, its costs drawn. */
 static void link(size_t u, size_t v) {
     from[map.count] = u;
     to[map.count] = v;
@@ -128,6 +136,7 @@ static void make_random(size_t links) {
     }
 }
 
+/* Each index to the next. */
 static void make_line(void) {
     for (size_t u = 0; u + 1 < map.bound; u++) link(u, u + 1);
 }
@@ -152,6 +161,7 @@ static void make_negative(void) {
     for (size_t i = 0; i < map.count; i++) costs[i] += heights[from[i]] - heights[to[i]];
 }
 
+/* Notes what each arc of the map costs. */
 static void note_arcs(void) {
     for (size_t u = 0; u < map.bound; u++)
         for (size_t v = 0; v < map.bound; v++) arc_cost[u][v] = NONE, arc_length[u][v] = INFINITY;
@@ -207,10 +217,11 @@ static void check_path(const char *who, const struct query *query) {
         if (given.length != 0) fail(who, "a path without a cost");
         return;
     }
-    if (given.length == 0 || given_nodes[0] != query->source || given_nodes[given.length - 1] != query->target)
+    if (given.length == 0 || given.length > map.bound || given_nodes[0] != query->source || given_nodes[given.length - 1] != query->target)
         fail(who, "the path has wrong ends");
     for (size_t i = 0; i + 1 < given.length; i++) {
-        int64_t cost = arc_cost[given_nodes[i]][given_nodes[i + 1]];
+        uint32_t u = given_nodes[i], v = given_nodes[i + 1];
+        int64_t cost = u < map.bound && v < map.bound ? arc_cost[u][v] : NONE;
         if (cost == NONE) fail(who, "the path takes an arc that is not there");
         total += cost;
     }
@@ -222,7 +233,7 @@ static void check_predecessors(const char *who, const struct query *query) {
     for (size_t v = 0; v < map.bound; v++) {
         uint32_t u = given_nodes[v];
         if ((u == NONE_NODE) != (v == query->source || given_real[v] == NONE_REAL)) fail(who, "a predecessor too many or too few");
-        if (u != NONE_NODE && given_real[u] + arc_length[u][v] != given_real[v]) fail(who, "a predecessor does not meet the distance");
+        if (u != NONE_NODE && (u >= map.bound || given_real[u] + arc_length[u][v] != given_real[v])) fail(who, "a predecessor does not meet the distance");
     }
 }
 
@@ -262,6 +273,16 @@ static void check(const char *who, enum question question, size_t q) {
 
 /* ---- measuring */
 
+/* Fills the last answer's place with what no answer holds, so that none passes for the next. */
+static void forget_answer(enum question question) {
+    size_t m = map.bound;
+    given.cost = -7;
+    given.length = 1;
+    memset(given_whole, 0x55, (all_pairs(question) ? m * m : m) * sizeof *given_whole);
+    memset(given_real, 0x55, m * sizeof *given_real);
+    memset(given_nodes, 0x55, m * sizeof *given_nodes);
+}
+
 /* One call: timed, told, checked. A long call is timed by the processor time of this thread (no library
    starts another), so that being set aside for other programs does not count; that clock is too slow to
    read for a short call, which the median protects. */
@@ -277,7 +298,7 @@ static double call(struct rival *rival, const struct measure *measure, size_t q)
         rival->lacks = 1;
         return 0;
     }
-    memset(given_nodes, 0, sizeof given_nodes);
+    forget_answer(measure->question);
     rival->is->tell(rival->graph, &queries[q], &given);
     check(rival->name, measure->question, q);
     return end - start;
@@ -294,6 +315,7 @@ static void turn(struct rival *rival, const struct measure *measure, size_t numb
     }
 }
 
+/* The order of times, for qsort. */
 static int by_size(const void *a, const void *b) {
     double x = *(const double *)a, y = *(const double *)b;
     return (x > y) - (x < y);
@@ -345,13 +367,14 @@ static void run_map(FILE *out, const char *of_kind, size_t bound, size_t links, 
     for (size_t r = 0; r < rival_count; r++) rivals[r].graph = rivals[r].is->build(&map);
     int largest = map.bound == INDICES && map.count == LINKS;
     for (size_t i = 0; i < sizeof MEASURES / sizeof *MEASURES; i++) {
-        double times = !largest ? 1 : all_pairs(MEASURES[i].question) ? 16 : 4;
-        if (asked(MEASURES[i].question)) run_case(out, &MEASURES[i], times * seconds);
+        double share = !largest ? 1 : all_pairs(MEASURES[i].question) ? 16 : 4;
+        if (asked(MEASURES[i].question)) run_case(out, &MEASURES[i], share * seconds);
     }
     for (size_t r = 0; r < rival_count; r++) rivals[r].is->drop(rivals[r].graph);
     fprintf(stderr, "%s, %s, %zu indices, %zu links\n", kind, directed ? "directed" : "undirected", bound, map.count);
 }
 
+/* Takes a library into the run, by an argument NAME=LIBRARY.so. */
 static void load(const char *argument) {
     struct rival *rival = &rivals[rival_count++];
     char symbol[64];

@@ -13,6 +13,7 @@
 
 namespace {
 
+// What an arc carries.
 struct Arc {
     int64_t cost;
     double length;
@@ -29,6 +30,7 @@ template <class T> struct Matrix {
     const T *operator[](size_t i) const { return &entries[i * side]; }
 };
 
+// The graph and the vectors that searches fill, kept from call to call.
 struct Boost {
     Graph graph;
     std::vector<int64_t> dist, rank;
@@ -48,6 +50,8 @@ template <class T> auto by_node(Boost *b, std::vector<T> &v) {
 
 const int64_t FAR = std::numeric_limits<int64_t>::max();
 const double FAR_REAL = std::numeric_limits<double>::max();
+
+// Thrown by a visitor to end a search.
 struct Stop {};
 
 // Ends a search at the target, as Boost's own A* example does.
@@ -68,12 +72,14 @@ struct AtCutoff : boost::default_dijkstra_visitor {
     }
 };
 
+// The heuristic, read from the query.
 struct Guess : boost::astar_heuristic<Graph, int64_t> {
     const int64_t *guess;
     explicit Guess(const int64_t *g) : guess(g) {}
     int64_t operator()(Node v) const { return guess[v]; }
 };
 
+// A compact graph from the arcs in any order.
 void *build(const map *map) {
     std::vector<std::pair<size_t, size_t>> ends;
     std::vector<Arc> arcs;
@@ -89,6 +95,7 @@ void *build(const map *map) {
     return new Boost(std::move(graph), map->bound);
 }
 
+// Distances and predecessors, up to the cutoff.
 void f64_search(Boost *b, size_t source, double cutoff) {
     try {
         boost::dijkstra_shortest_paths(b->graph, Node(source),
@@ -100,6 +107,7 @@ void f64_search(Boost *b, size_t source, double cutoff) {
     }
 }
 
+// A* to the target; `found` says whether it was reached.
 void a_star(Boost *b, const struct query *query) {
     b->found = false;
     try {
@@ -134,6 +142,7 @@ void all_hops(Boost *b) {
     }
 }
 
+// A negative loop shows as false.
 outcome ended(bool well) { return well ? ANSWERED : REFUSED; }
 
 outcome ask(void *graph, const struct query *query) {

@@ -3,6 +3,7 @@
 #include <igraph/igraph.h>
 #include <stdlib.h>
 
+/* The graph, its weights, and the matrix that distances go to. */
 struct igraph {
     igraph_t graph;
     igraph_vector_t costs, lengths;
@@ -27,6 +28,7 @@ static void *build(const struct map *map) {
     return g;
 }
 
+/* An error code as an outcome. */
 static enum outcome ended(igraph_error_t error) { return error ? REFUSED : ANSWERED; }
 
 static enum outcome ask(void *graph, const struct query *query) {

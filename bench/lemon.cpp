@@ -14,6 +14,7 @@ using Real = Graph::ArcMap<double>;
 
 namespace {
 
+// The graph, and one search object of each kind, kept from call to call.
 struct Lemon {
     Graph graph;
     Whole costs{graph};
@@ -25,6 +26,7 @@ struct Lemon {
     std::vector<int64_t> hops;
 };
 
+// Arcs sorted by their first end, as StaticDigraph wants them.
 void *build(const map *map) {
     auto *l = new Lemon;
     struct Arc {

@@ -31,11 +31,13 @@ struct ours {
     double real_keys[M];
 };
 
+/* Arguments that stand together: the table of links, an integer map, the neighbour list, the bag. */
 #define TABLE o->bound, o->count, o->directed, SLICE(o->marks), SLICE(o->from), SLICE(o->to)
 #define MAP TABLE, SLICE(o->costs)
 #define LIST SLICE(o->offsets), SLICE(o->heads), SLICE(o->weights)
 #define BAG SLICE(o->heap), SLICE(o->places), SLICE(o->keys)
 
+/* A table of the map's links, every index present, every link open. */
 static void *build(const struct map *map) {
     struct ours *o = calloc(1, sizeof *o);
     o->bound = map->bound;
@@ -53,6 +55,7 @@ static void *build(const struct map *map) {
     return o;
 }
 
+/* The f64 search, with the cutoff if capped. */
 static size_t f64_search(struct ours *o, const struct query *query, uint8_t capped) {
     return dimetumble_dijkstra_path_f64(TABLE, SLICE(o->bits), SLICE(o->opens), query->source, capped, query->cutoff, SLICE(o->real),
                                         SLICE(o->preds), SLICE(o->offsets), SLICE(o->heads), SLICE(o->patterns), SLICE(o->heap),
@@ -64,6 +67,7 @@ static size_t record(const struct ours *o, const struct query *query) {
     return query->question == PUT_NEW ? o->count - 1 : query->link;
 }
 
+/* Puts the record into the table of puts. */
 static size_t put(struct ours *o, const struct query *query) {
     size_t i = record(o, query);
     o->length = query->question == PUT_NEW ? o->count - 1 : o->count;
@@ -81,6 +85,7 @@ static int take_back(struct ours *o, const struct query *query) {
     return right;
 }
 
+/* A number of ours as an outcome. */
 static enum outcome ended(size_t number) { return number == 0 ? ANSWERED : REFUSED; }
 
 static enum outcome ask(void *graph, const struct query *query) {

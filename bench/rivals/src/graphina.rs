@@ -3,6 +3,7 @@ use crate::{Answer, Map, Query, Question, Rival};
 use graphina::core::paths::*;
 use graphina::core::types::*;
 
+/// The last answer, as the library gave it.
 enum Given {
     Nothing,
     Distances(NodeMap<Option<i64>>),
@@ -12,6 +13,7 @@ enum Given {
     Hops(Vec<NodeId>, Vec<Vec<Option<u32>>>),
 }
 
+/// One map as the library's graphs, one for each kind of cost.
 struct Graphina<Ty: GraphConstructor<(), i64> + GraphConstructor<(), f64>> {
     whole: BaseGraph<(), i64, Ty>,
     real: BaseGraph<(), f64, Ty>,
@@ -19,6 +21,7 @@ struct Graphina<Ty: GraphConstructor<(), i64> + GraphConstructor<(), f64>> {
     given: Given,
 }
 
+/// The graphs of a map, directed or undirected.
 pub fn build(map: &Map) -> Box<dyn Rival> {
     if map.directed != 0 {
         Box::new(Graphina::<Directed>::new(map))
@@ -28,6 +31,7 @@ pub fn build(map: &Map) -> Box<dyn Rival> {
 }
 
 impl<Ty: GraphConstructor<(), i64> + GraphConstructor<(), f64>> Graphina<Ty> {
+    /// Every index a node, every link an edge.
     fn new(map: &Map) -> Self {
         let mut whole = BaseGraph::new();
         let mut real = BaseGraph::new();

@@ -134,17 +134,21 @@ impl Answer {
     }
 }
 
+/// What the driver holds a pointer to.
 type Boxed = Box<dyn Rival>;
 
+/// Hands a graph to the driver.
 fn boxed(rival: Boxed) -> *mut c_void {
     Box::into_raw(Box::new(rival)) as *mut c_void
 }
 
+/// The graph behind the driver's pointer.
 fn rival<'a>(graph: *mut c_void) -> &'a mut Boxed {
     // SAFETY: the driver passes what `build` gave, to one call at a time, before `drop`.
     unsafe { &mut *(graph as *mut Boxed) }
 }
 
+/// `ask` of contender.h, for both libraries.
 extern "C" fn ask(graph: *mut c_void, query: &Query) -> Outcome {
     if rival(graph).ask(query) {
         Outcome::Answered
@@ -153,19 +157,23 @@ extern "C" fn ask(graph: *mut c_void, query: &Query) -> Outcome {
     }
 }
 
+/// `tell` of contender.h, for both libraries.
 extern "C" fn tell(graph: *mut c_void, query: &Query, answer: &mut Answer) {
     rival(graph).tell(query, answer)
 }
 
+/// `drop` of contender.h, for both libraries.
 extern "C" fn drop_rival(graph: *mut c_void) {
     // SAFETY: as above; the driver calls this once.
     drop(unsafe { Box::from_raw(graph as *mut Boxed) })
 }
 
+/// `build` of contender.h, for graphina.
 extern "C" fn build_graphina(map: &Map) -> *mut c_void {
     boxed(graphina::build(map))
 }
 
+/// `build` of contender.h, for petgraph.
 extern "C" fn build_petgraph(map: &Map) -> *mut c_void {
     boxed(petgraph::build(map))
 }

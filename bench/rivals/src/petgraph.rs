@@ -7,6 +7,7 @@ use petgraph::graph::{Graph, NodeIndex};
 use petgraph::{Directed, EdgeType, Undirected};
 use std::collections::HashMap;
 
+/// The last answer, as the library gave it.
 enum Given {
     Nothing,
     Distances(HashMap<NodeIndex, i64>),
@@ -16,6 +17,7 @@ enum Given {
     Matrix(HashMap<(NodeIndex, NodeIndex), i64>),
 }
 
+/// One map as the library's graphs, one for each kind of cost.
 struct Petgraph<Ty: EdgeType> {
     whole: Graph<(), i64, Ty>,
     costs: Graph<(), f64, Ty>,
@@ -23,6 +25,7 @@ struct Petgraph<Ty: EdgeType> {
     given: Given,
 }
 
+/// The graphs of a map, directed or undirected.
 pub fn build(map: &Map) -> Box<dyn Rival> {
     if map.directed != 0 {
         Box::new(Petgraph::<Directed>::new(map))
@@ -42,6 +45,7 @@ fn graph<W, Ty: EdgeType>(map: &Map, cost: impl Fn(i64, f64) -> W) -> Graph<(), 
 }
 
 impl<Ty: EdgeType> Petgraph<Ty> {
+    /// Every index a node, every link an edge.
     fn new(map: &Map) -> Self {
         Petgraph {
             whole: graph(map, |whole, _| whole),
