@@ -1,7 +1,9 @@
 # make run: proves the program `paths` and prints the sheet of an example.
 # make test: the documents against the tree and the tests of the tools (Python 3), then the gate.
 # make audit: the documents alone, in seconds. make test-doors: the C and the Rust interface (cc, cargo).
-.PHONY: run test audit test-tools test-doors test-c test-rust
+# make compare: the proved functions against the original and slow plain models (oracle/README.md says what it needs).
+# make bench: speed beside the original and other libraries; writes docs/BENCH.md and docs/bench.svg.
+.PHONY: run test audit test-tools test-doors test-c test-rust compare bench
 
 run:
 	rt check paths
@@ -31,3 +33,12 @@ test-c:
 
 test-rust:
 	cd bindings/rust && cargo test --offline
+
+compare:
+	rt check paths sheets
+	python3 tests/mapfile/run_paths.py target/bin/paths
+	python3 tests/mapfile/compare_program.py target/bin/sheets 100000
+	bash oracle/run
+
+bench:
+	bench/run
