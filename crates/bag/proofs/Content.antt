@@ -5,10 +5,11 @@ use mathlib.Core.Option.{Option, none, some, Option·none-ne-some}
 use Prim.Native.Nat.{ℕ, zero, suc, _+_, _≤_, _<_}
 use native.Mathlib.Omega.{arith}
 use native.Mathlib.Nat.{not-suc-le-zero, le-of-suc-le-suc}
+use native.Mathlib.Decide.{ℕ-discrete}
 use native.Mathlib.Numerals.{add-one}
 use lib.ListN.{getD, length, set}
-use Rattle.bag.specs.Content.{entry, contentOf}
-use Rattle.bag.specs.Heap.{held, SameIn}
+use lib.Seq.{getD-set-same, getD-set-other}
+use Rattle.bag.specs.Content.{entry, contentOf, held, SameIn}
 
 -- an element within the list does not depend on the default
 pub any-default : {A : Type 0} (l : List A) (i : ℕ) (d e : A) → i < length l → getD l i d ≡ getD l i e
@@ -143,3 +144,33 @@ held-out (zero ∷ ps) zero p e = absurd (omega (arith, e))
 held-out (suc x ∷ ps) zero p e = add-one (held ps)
 held-out (zero ∷ ps) (suc v) p e = held-out ps v p e
 held-out (suc x ∷ ps) (suc v) p e = omega (arith, held-out ps v p e)
+
+-- ---- places that are not 0
+-- an entry that is not 0 is within the list
+pub inside : (l : List ℕ) (v : ℕ) → 0 < getD l v 0 → v < length l
+inside [] v h = absurd (omega (arith, h))
+inside (x ∷ l) zero h = omega arith
+inside (x ∷ l) (suc v) h = omega (arith, inside l v h)
+
+-- where something is held there is an entry that is not 0
+pub record Some (l : List ℕ) : Type 0 where
+  pub at : ℕ
+  pub is : 0 < getD l at 0
+
+pub some-held : (l : List ℕ) → 0 < held l → Some l
+unfolding held
+some-held [] h = absurd (omega (arith, h))
+some-held (zero ∷ l) h = let s = some-held l h in record { at = suc (s .at); is = s .is }
+some-held (suc x ∷ l) h = record { at = 0; is = omega arith }
+
+-- an entry that is not 0 gets another value that is not 0
+pub same-some : (l : List ℕ) (v w : ℕ) → 0 < getD l v 0 → 0 < w → SameIn l (set l v w)
+same-some l v w h p = record { still-out = λ u e. out u (ℕ-discrete u v) e; was-out = λ u e. was u (ℕ-discrete u v) e }
+  where
+    out : (u : ℕ) → Dec (u ≡ v) → getD l u 0 ≡ 0 → getD (set l v w) u 0 ≡ 0
+    out u (yes d) e = absurd (omega (arith, ap (λ (x : ℕ). getD l x 0) d, h, e))
+    out u (no d) e = getD-set-other l v u w 0 d ∙ e
+
+    was : (u : ℕ) → Dec (u ≡ v) → getD (set l v w) u 0 ≡ 0 → getD l u 0 ≡ 0
+    was u (yes d) e = absurd (omega (arith, ap (λ (x : ℕ). getD (set l v w) x 0) d, getD-set-same l v w 0 (inside l v h), p, e))
+    was u (no d) e = sym (getD-set-other l v u w 0 d) ∙ e

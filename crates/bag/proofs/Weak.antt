@@ -1,6 +1,6 @@
 -- The order of pairs over an order of keys in which unequal keys may tie, which is all that a heap needs. Assumes nothing.
 use mathlib.Core.Path.{_≡_, refl, sym, ap, _∙_}
-use mathlib.Core.Bool.{Bool, true, false, not, _&&_, _||_, true≢false}
+use mathlib.Core.Bool.{Bool, true, false, true≢false}
 use Prim.Native.Nat.{ℕ, _≤_}
 use native.Mathlib.Omega.{arith}
 use lib.Dec.{ltb}
@@ -16,18 +16,7 @@ pub record IsWeakOrder {K : Type 0} (lt : K → K → Bool) (ok : K → Type 0) 
 pub weak : {K : Type 0} {lt : K → K → Bool} {ok : K → Type 0} → IsOrder lt ok → IsWeakOrder lt ok
 weak O = record { asym = O .asym; neg = O .neg }
 
--- both tests run, and their answers are joined: the same choice
-joined : (a b c : Bool) → (a || (not b && c)) ≡ pick a true (pick b false c)
-joined true b c = refl
-joined false true c = refl
-joined false false c = refl
-
 module _ {K : Type 0} (lt : K → K → Bool) where
-  -- the test without a branch
-  pub before-is : (k : K) (i : ℕ) (l : K) (j : ℕ) → (lt k l || (not (lt l k) && ltb i j)) ≡ before lt k i l j
-  unfolding before
-  before-is k i l j = joined (lt k l) (lt l k) (ltb i j)
-
   -- what it is not to stand before: the other key is no greater, and where the keys tie neither is its index
   pub not-before : (k : K) (i : ℕ) (l : K) (j : ℕ) → before lt k i l j ≡ false → (lt k l ≡ false) × (lt l k ≡ false → j ≤ i)
   unfolding before

@@ -18,6 +18,17 @@ contentOf [] ks = []
 contentOf (p ∷ ps) [] = []
 contentOf (p ∷ ps) (k ∷ ks) = entry p k ∷ contentOf ps ks
 
+-- how many indices have a place
+unfoldable pub held : List ℕ → ℕ
+held [] = 0
+held (zero ∷ ps) = held ps
+held (suc p ∷ ps) = suc (held ps)
+
+-- the same indices have a place
+pub record SameIn (a b : List ℕ) : Type 0 where
+  pub still-out : (v : ℕ) → getD a v 0 ≡ 0 → getD b v 0 ≡ 0
+  pub was-out : (v : ℕ) → getD b v 0 ≡ 0 → getD a v 0 ≡ 0
+
 -- (k, v) is the least pair of the content: it is held, and no pair that is held stands before it
 pub record IsLeast {K : Type 0} (lt : K → K → Bool) (content : List (Option K)) (k : K) (v : ℕ) : Type 0 where
   pub found : getD content v none ≡ some k

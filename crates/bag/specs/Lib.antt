@@ -3,5 +3,6 @@ pub mod Content
 pub mod Keys
 pub mod Ints
 pub mod Floats
-pub mod Heap
+pub mod Tree
+pub mod Names
 pub mod Bag

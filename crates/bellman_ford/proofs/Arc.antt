@@ -22,17 +22,19 @@ use Rattle.rows.specs.RowArc.{RowArc}
 use Rattle.rows.specs.Kept.{Kept}
 use Rattle.rows.proofs.Graph as graph
 use Rattle.rows.proofs.Kept.{kept-none, kept-set}
-use Rattle.bellman_ford.specs.Search.{Memory, memoryOf, Wide, KeptMemory, Fit, Label, betterThan, slotOf, Good, Held, Open, Safe, Pushed, waiting, pushed, toDo}
-use Rattle.bellman_ford.proofs.Ring.{slot-below, push-done}
+use Rattle.bellman_ford.specs.Search.{Memory, memoryOf, Wide, KeptMemory, Fit, Label, betterThan, slotOf, Good, Held, Open, Safe, Pushed, full, waiting, pushed, Ring, toDo}
+use Rattle.bellman_ford.proofs.Ring.{slot-below, full-waits, push-done}
 use Rattle.bellman_ford.proofs.Labels.{worse-is, within, both-small, label-new, label-other, label-back, label-is, label-kinds, label-falls, better-label, lighter}
 
 -- what a push does to the marks and to the ring's slices
-pub push-marks : {m h n v n′ : ℕ} {q qd q′ qd′ : List ℕ} → v < length qd → Pushed m h n v q qd q′ qd′ n′ → (getD qd′ v 0 ≡ 0 → ⊥) × ((x : ℕ) → (x ≡ v → ⊥) → getD qd′ x 0 ≡ getD qd x 0) × (n′ ≤ n + 1)
-push-marks {v} {qd} k (waiting f e a b) = (rw b f, λ x g. rw b, omega arith)
-push-marks {v} {qd} k (pushed z e a b) = (rw (b, getD-set-same qd v 1 0 k) (λ y. omega arith), λ x g. rw b (getD-set-other qd v x 1 0 g), omega arith)
+pub push-marks : {m h n v n′ : ℕ} {q qd q′ qd′ : List ℕ} → Ring m h n q qd → v < m → v < length qd → Pushed m h n v q qd q′ qd′ n′ → (getD qd′ v 0 ≡ 0 → ⊥) × ((x : ℕ) → (x ≡ v → ⊥) → getD qd′ x 0 ≡ getD qd x 0) × (n′ ≤ n + 1)
+push-marks {v} {qd} r l k (full f e a b) = (rw b (full-waits r v l f), λ x g. rw b, omega arith)
+push-marks {v} {qd} r l k (waiting s f e a b) = (rw (b, getD-set-same qd v 1 0 k) (λ y. omega arith), λ x g. rw b (getD-set-other qd v x 1 0 g), omega arith)
+push-marks {v} {qd} r l k (pushed z e a b) = (rw (b, getD-set-same qd v 1 0 k) (λ y. omega arith), λ x g. rw b (getD-set-other qd v x 1 0 g), omega arith)
 
 pub push-kept : {m h n v n′ : ℕ} {q qd q′ qd′ : List ℕ} → h < m → n ≤ m → v < m → Pushed m h n v q qd q′ qd′ n′ → Kept m q q′ × Kept m qd qd′
-push-kept a b c (waiting f e x y) = (rw x kept-none, rw y kept-none)
+push-kept a b c (full f e x y) = (rw x kept-none, rw y kept-none)
+push-kept {m} {h} {n} {v} {q} {qd} a b c (waiting l f e x y) = (rw x (kept-set q (slotOf m h n) v (slot-below m h n a b)), rw y (kept-set qd v 1 c))
 push-kept {m} {h} {n} {v} {q} {qd} a b c (pushed z e x y) = (rw x (kept-set q (slotOf m h n) v (slot-below m h n a b)), rw y (kept-set qd v 1 c))
 
 -- the lists are long enough at every moment
@@ -132,7 +134,7 @@ module _ {m p s : ℕ} {nb : Lists ℤ} (fit : Fit m p s nb) {u k i h n : ℕ} {
     -- stored, and the index queued
     module _ (e : k + 1 < p) {n′ : ℕ} {q′ qd′ : List ℕ} (w : Pushed m h n v (M .queue) (M .queued) q′ qd′ n′) where
       marks : (getD qd′ v 0 ≡ 0 → ⊥) × ((x : ℕ) → (x ≡ v → ⊥) → getD qd′ x 0 ≡ getD (M .queued) x 0) × (n′ ≤ n + 1)
-      marks = push-marks (omega (arith, below, o .held .ring .roomD)) w
+      marks = push-marks (o .held .ring) below (omega (arith, below, o .held .ring .roomD)) w
 
       old-mark : (x : ℕ) → getD qd′ x 0 ≡ 0 → (x ≡ v → ⊥) × (getD (M .queued) x 0 ≡ 0)
       old-mark x z = let f : x ≡ v → ⊥ = λ q. marks .0 (subst (λ (y : ℕ). getD qd′ y 0 ≡ 0) q z) in (f, sym (marks .1 x f) ∙ z)

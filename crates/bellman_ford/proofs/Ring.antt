@@ -14,7 +14,7 @@ use Rattle.walks.specs.Pigeon.{In, here, there, NoDup}
 use Rattle.walks.proofs.Pigeon.{short}
 use Rattle.net.specs.Net.{rising}
 use Rattle.net.proofs.Nodes.{count-most, rising-in}
-use Rattle.bellman_ford.specs.Search.{slotOf, waits, Ring, Pushed, waiting, pushed}
+use Rattle.bellman_ford.specs.Search.{slotOf, waits, Ring, Pushed, full, waiting, pushed}
 
 -- ---- places
 slot-cases : (m h i : ℕ) → ((h + i < m) × (slotOf m h i ≡ h + i)) ⊎ ((m ≤ h + i) × (slotOf m h i ≡ h + i - m))
@@ -107,9 +107,41 @@ module _ {m h n : ℕ} {q qd : List ℕ} (r : Ring m h n q qd) where
             let w = r .found x a (λ z. b (getD-set-other qd v x 1 0 f ∙ z)) in
             (w .0, omega (arith, w .1), old-at (w .0) (w .1) ∙ w .2)
 
+  -- where the ring is full each index waits
+  pub full-waits : (v : ℕ) → v < m → m ≤ n → getD qd v 0 ≡ 0 → ⊥
+  full-waits v below e z = omega (arith, push-room v below z)
+
+  -- an index that waits is written past the end, and marked as it is
+  module _ (v : ℕ) (below : v < m) (some : n < m) (waits-there : getD qd v 0 ≡ 0 → ⊥) where
+    past-at : (i : ℕ) → i < n → waits m h (set q (slotOf m h n) v) i ≡ waits m h q i
+    past-at i k = getD-set-other q (slotOf m h n) (slotOf m h i) v 0 (λ e. slot-apart m h i n (r .first) k some e)
+
+    same-marks : (x : ℕ) → getD (set qd v 1) x 0 ≡ getD qd x 0
+    same-marks x = go (ℕ-discrete x v)
+      where
+        go : Dec (x ≡ v) → getD (set qd v 1) x 0 ≡ getD qd x 0
+        go (yes e) =
+            let w = r .found v below waits-there in
+            let one : getD qd v 0 ≡ 1 = subst (λ (y : ℕ). getD qd y 0 ≡ 1) (w .2) (r .marked (w .0) (w .1)) in
+            ap (λ (y : ℕ). getD (set qd v 1) y 0) e ∙ getD-set-same qd v 1 0 (omega (arith, below, r .roomD)) ∙ sym one ∙ ap (λ (y : ℕ). getD qd y 0) (sym e)
+        go (no f) = getD-set-other qd v x 1 0 f
+
+    past-ring : Ring m h n (set q (slotOf m h n) v) (set qd v 1)
+    past-ring = record {
+      first = r .first;
+      few = r .few;
+      roomQ = omega (arith, r .roomQ, length-set q (slotOf m h n) v);
+      roomD = omega (arith, r .roomD, length-set qd v 1);
+      inside = λ i k. rw (past-at i k) (r .inside i k);
+      marked = λ i k. rw (past-at i k, same-marks (waits m h q i)) (r .marked i k);
+      apart = λ i j a b e. r .apart i j a b (sym (past-at i (omega arith)) ∙ (e ∙ past-at j b));
+      found = λ x a b. let w = r .found x a (λ z. b (same-marks x ∙ z)) in (w .0, w .1, past-at (w .0) (w .1) ∙ w .2);
+    }
+
   -- what a push leaves, in either case
   pub push-done : {v n′ : ℕ} {q′ qd′ : List ℕ} → v < m → Pushed m h n v q qd q′ qd′ n′ → Ring m h n′ q′ qd′
-  push-done below (waiting f e a b) = rw (e, a, b) r
+  push-done below (full f e a b) = rw (e, a, b) r
+  push-done {v} below (waiting l f e a b) = rw (e, a, b) (past-ring v below l f)
   push-done {v} below (pushed z e a b) = rw (e, a, b) (push-ring v below z)
 
   -- ---- a take

@@ -150,7 +150,7 @@ module _ {m p s : ℕ} {nb : Lists ℤ} {M : Memory} (fit : Fit m p s nb) (f : F
     }
       where
         marks : (getD qd′ s 0 ≡ 0 → ⊥) × ((x : ℕ) → (x ≡ s → ⊥) → getD qd′ x 0 ≡ getD (M .queued) x 0) × (n′ ≤ 0 + 1)
-        marks = push-marks (omega (arith, fit .below, f .wide .queued)) w
+        marks = push-marks empty-ring (fit .below) (omega (arith, fit .below, f .wide .queued)) w
 
         queued : (v : ℕ) → v < m → (getD qd′ v 0 ≡ 0 → ⊥) → Dec (v ≡ s) → (d : ℤ) × Label m l₁ v d
         queued v a g (yes q) = (pos 0, subst (λ (y : ℕ). Label m l₁ y (pos 0)) (sym q) source-label)

@@ -124,9 +124,10 @@ pub record Safe (m : ℕ) (d : ℤ) (k v : ℕ) (c : ℤ) (h n : ℕ) (M : Memor
   pub cost : P c + N c ≤ 2 ^ 60
   pub wide : Wide m M
 
--- an index goes to the end of the ring, unless it waits there
+-- an index goes to the end of the ring, unless it waits there, as each does where the ring is full; past the end nothing waits
 pub data Pushed (m h n v : ℕ) (q qd q′ qd′ : List ℕ) (r : ℕ) : Type 0 where
-  waiting : (getD qd v 0 ≡ 0 → ⊥) → r ≡ n → q′ ≡ q → qd′ ≡ qd → Pushed m h n v q qd q′ qd′ r
+  full : m ≤ n → r ≡ n → q′ ≡ q → qd′ ≡ qd → Pushed m h n v q qd q′ qd′ r
+  waiting : n < m → (getD qd v 0 ≡ 0 → ⊥) → r ≡ n → q′ ≡ set q (slotOf m h n) v → qd′ ≡ set qd v 1 → Pushed m h n v q qd q′ qd′ r
   pushed : getD qd v 0 ≡ 0 → r ≡ n + 1 → q′ ≡ set q (slotOf m h n) v → qd′ ≡ set qd v 1 → Pushed m h n v q qd q′ qd′ r
 
 -- one arc to v of cost c, looked at from an index with the label d and the path length k

@@ -49,6 +49,7 @@ fn store(dist: &mut [i64], v: usize, n: i64)
 }
 
 // The index v goes to the end of the ring, unless it waits there. Gives how many wait.
+// It is written past the end in either case and then counted or not, for whether it waits no processor can foresee.
 fn push(
     m: usize,
     head: usize,
@@ -60,13 +61,17 @@ fn push(
     requires { ⌜ (m ≤ 1024) × (head < m) × (size ≤ m) × (v < m) × (m ≤ length (now queue)) × (m ≤ length (now queued)) ⌝ }
     ensures { λ r. ⌜ Pushed m head size v (now (queue .entry)) (now (queued .entry)) (now (queue .exit)) (now (queued .exit)) r ⌝ }
 {
-    if queued[v] != 0 {
+    if m <= size {
         return size;
     }
+    let old = queued[v];
     queued[v] = 1;
     let at = slot(m, head, size);
     queue[at] = v;
-    size + 1
+    if old == 0 {
+        return size + 1;
+    }
+    size
 }
 
 // One arc to v, looked at from an index with the distance d and the path length k.

@@ -20,8 +20,6 @@ use Rattle.float.proofs.None.{dist-not-none, none-itself}
 use Rattle.rows.specs.Rows.{Lists}
 use Rattle.rows.specs.RowArc.{RowArc, Sound}
 use Rattle.bag.specs.Order.{pick}
-use Rattle.bag.specs.Keys.{Okay}
-use Rattle.bag.specs.Floats.{unsigned, floats}
 use Rattle.pending.specs.Literal.{better}
 use Rattle.pending.specs.OnePlace.{Cell}
 use Rattle.pending.specs.Floats.{search64}
@@ -35,12 +33,6 @@ use Rattle.turns.proofs.Lawful.{Lawful}
 use Rattle.turns.proofs.Cells.{getD-same}
 use Rattle.turns.proofs.Turns.{upto, upto-long, Moment, Popped, started, starts, turn, next}
 use Rattle.dijkstra_path.specs.Search.{read64, kind64}
-
--- a distance is a good key of the bag
-pub dist-key : (x : Float) → Dist binary64 x → T (unsigned x)
-dist-key nan p = p .is-clear
-dist-key (inf s) p = p .is-clear
-dist-key (fin s m e) p = p .is-clear
 
 -- a distance is read back
 pub read-back : (x : Float) → Dist binary64 x → read64 x ≡ some x
@@ -71,11 +63,6 @@ lawful k = record {
   empty = read-none;
   lower = λ d e v p q l. lt-asym binary64 d e p q l;
 }
-
--- zeros are good keys of the bag
-pub okay-zeros : (m : ℕ) (l : List Float) → l ≡ replicate m zero64 → Okay floats l
-unfolding zero64
-okay-zeros m l e = subst (Okay floats) (sym e) (record { at = λ p. subst (λ (x : Float). T (unsigned x)) (sym (getD-same m (ofBits binary64 0) p)) (unfold ofBits in tt) })
 
 module _ (k : Cutoff) (m source : ℕ) (nb : Lists ℕ) where
   -- at the head of the loop, after t kept takes: no index was taken twice

@@ -5,20 +5,18 @@ use mathlib.Core.List.{List, [], _∷_, _++_}
 use mathlib.Core.Option.{none}
 use Prim.Native.Nat.{ℕ, zero, suc, _+_, _-_, _≤_, _<_}
 use native.Mathlib.Omega.{arith}
-use lib.Ieee.{Float, binary64, ofBits}
+use lib.Ieee.{Float}
 use lib.ListN.{length, getD, take, drop, replicate, length-append, length-drop, length-replicate, List·getD-append}
 use lib.Seq.{drop-at, length-take-le}
 use Rattle.clean.specs.Fill.{filled}
 use Rattle.clean.specs.None.{noneF64, noneU32}
 use Rattle.clean.proofs.Filled.{filled-length, filled-rest, settle}
-use Rattle.float.specs.Dist.{zero64}
 use Rattle.float.specs.declared.Cutoff.{Cutoff}
 use Rattle.rows.specs.Rows.{Lists}
 use Rattle.turns.specs.Memory.{Memory, memoryOf, Fresh}
 use Rattle.turns.specs.Searched.{Searched}
 use Rattle.dijkstra_path.specs.Search.{kind64}
 use Rattle.dijkstra_path.specs.Parts.{Roomy, Rest, Ran}
-use Rattle.dijkstra_path.proofs.Floats.{okay-zeros}
 
 -- a part of m
 pub take-long : {X : Type 0} (m : ℕ) (l : List X) → m ≤ length l → m ≡ length (take m l)
@@ -62,8 +60,8 @@ back-rest m {l} {l₁} d h r e = record {
 back-at : {X : Type 0} (m : ℕ) (l₁ d : List X) (z : X) (v : ℕ) → m ≤ length l₁ → length d ≡ length (take m l₁) → v < m → getD (d ++ drop m l₁) v z ≡ getD d v z
 back-at m l₁ d z v h e l = List·getD-append d (drop m l₁) z v (omega (arith, e, take-long m l₁ h))
 
-module _ {m : ℕ} {M : Memory Float} (w : Roomy m M) {dist keys : List Float} {preds places : List ℕ}
-    (dist-is : dist ≡ filled m noneF64 (M .dist)) (preds-is : preds ≡ filled m noneU32 (M .preds)) (places-is : places ≡ filled m 0 (M .places)) (keys-is : keys ≡ filled m (ofBits binary64 0) (M .keys)) where
+module _ {m : ℕ} {M : Memory Float} (w : Roomy m M) {dist : List Float} {preds heap places : List ℕ}
+    (dist-is : dist ≡ filled m noneF64 (M .dist)) (preds-is : preds ≡ filled m noneU32 (M .preds)) (heap-is : heap ≡ filled m 0 (M .heap)) (places-is : places ≡ filled m 0 (M .places)) where
   keptD : Rest m (M .dist) dist
   keptD = filled-keeps m noneF64 (w .dist) dist-is
 
@@ -73,24 +71,23 @@ module _ {m : ℕ} {M : Memory Float} (w : Roomy m M) {dist keys : List Float} {
   keptB : Rest m (M .places) places
   keptB = filled-keeps m 0 (w .places) places-is
 
-  keptK : Rest m (M .keys) keys
-  keptK = filled-keeps m (ofBits binary64 0) (w .keys) keys-is
+  keptH : Rest m (M .heap) heap
+  keptH = filled-keeps m 0 (w .heap) heap-is
 
   -- the parts are ready for a search
-  pub part-fresh : (k : Cutoff) → Fresh (kind64 k) m (memoryOf (take m dist) (take m preds) (take m (M .heap)) (take m places) (take m keys))
-  unfolding zero64
-  part-fresh k = record {
+  pub part-fresh : (k : Cutoff) → m ≤ 1024 → Fresh (kind64 k) m (memoryOf (take m dist) (take m preds) (take m heap) (take m places) (take m (M .keys)))
+  part-fresh k few = record {
+    few = few;
     dist = ap (take m) dist-is ∙ filled-part m noneF64 (M .dist);
     preds = ap (take m) preds-is ∙ filled-part m noneU32 (M .preds);
+    heap = ap (take m) heap-is ∙ filled-part m 0 (M .heap);
     places = ap (take m) places-is ∙ filled-part m 0 (M .places);
-    heap = sym (take-long m (M .heap) (w .heap));
-    keys = sym (take-long m keys (omega (arith, w .keys, keptK .long)));
-    okay = okay-zeros m (take m keys) (ap (take m) keys-is ∙ filled-part m (ofBits binary64 0) (M .keys));
+    keys = sym (take-long m (M .keys) (w .keys));
   }
 
   -- what a search on them leaves of the lists
-  pub ran : (k : Cutoff) {s : ℕ} {nb : Lists ℕ} {no takes : ℕ} (d : List Float) (p h i : List ℕ) (q : List Float) → length d ≡ length (take m dist) → length p ≡ length (take m preds) → length h ≡ length (take m (M .heap)) → length i ≡ length (take m places) → length q ≡ length (take m keys)
-      → Searched (kind64 k) m none s nb (memoryOf d p h i q) no takes → Ran k m s nb M (memoryOf (d ++ drop m dist) (p ++ drop m preds) (h ++ drop m (M .heap)) (i ++ drop m places) (q ++ drop m keys)) no
+  pub ran : (k : Cutoff) {s : ℕ} {nb : Lists ℕ} {no takes : ℕ} (d : List Float) (p h i : List ℕ) (q : List Float) → length d ≡ length (take m dist) → length p ≡ length (take m preds) → length h ≡ length (take m heap) → length i ≡ length (take m places) → length q ≡ length (take m (M .keys))
+      → Searched (kind64 k) m none s nb (memoryOf d p h i q) no takes → Ran k m s nb M (memoryOf (d ++ drop m dist) (p ++ drop m preds) (h ++ drop m heap) (i ++ drop m places) (q ++ drop m (M .keys))) no
   ran k d p h i q ld lp lh li lq z =
       let rD = back-rest m d (w .dist) keptD ld in
       let rP = back-rest m p (w .preds) keptP lp in
@@ -102,7 +99,7 @@ module _ {m : ℕ} {M : Memory Float} (w : Roomy m M) {dist keys : List Float} {
         preds = λ e. settle noneU32 (w .preds) (rP .long) (λ v l. back-at m preds p noneU32 v (omega (arith, w .preds, keptP .long)) lp l ∙ z .shows e .preds v) (rP .rest);
         restD = rD;
         restP = rP;
-        restH = back-rest m h (w .heap) (same-rest m (M .heap)) lh;
+        restH = back-rest m h (w .heap) keptH lh;
         restB = back-rest m i (w .places) keptB li;
-        restK = back-rest m q (w .keys) keptK lq;
+        restK = back-rest m q (w .keys) (same-rest m (M .keys)) lq;
       }

@@ -276,17 +276,17 @@ fn refusal(
 }
 
 // In the part used nothing has a distance, and nothing is pending.
-fn prepare(m: usize, dist: &mut [f64], preds: &mut [u32], places: &mut [usize], keys: &mut [f64])
-    requires { ⌜ (m ≤ length (now dist)) × (m ≤ length (now preds)) × (m ≤ length (now places)) × (m ≤ length (now keys)) ⌝ }
+fn prepare(m: usize, dist: &mut [f64], preds: &mut [u32], heap: &mut [usize], places: &mut [usize])
+    requires { ⌜ (m ≤ length (now dist)) × (m ≤ length (now preds)) × (m ≤ length (now heap)) × (m ≤ length (now places)) ⌝ }
     ensures { λ _. ⌜ now (dist .exit) ≡ filled m noneF64 (now (dist .entry)) ⌝ }
     ensures { λ _. ⌜ now (preds .exit) ≡ filled m noneU32 (now (preds .entry)) ⌝ }
+    ensures { λ _. ⌜ now (heap .exit) ≡ filled m 0 (now (heap .entry)) ⌝ }
     ensures { λ _. ⌜ now (places .exit) ≡ filled m 0 (now (places .entry)) ⌝ }
-    ensures { λ _. ⌜ now (keys .exit) ≡ filled m (ofBits binary64 0) (now (keys .entry)) ⌝ }
 {
     clean::blank_f64(dist, m);
     clean::blank_u32(preds, m);
+    clean::clear_usize(heap, m);
     clean::clear_usize(places, m);
-    clean::clear_f64(keys, m);
 }
 
 // The search on the part used of each list.
@@ -308,7 +308,7 @@ fn run(
     requires { ⌜ Roomy m (memoryOf (now dist) (now preds) (now heap) (now places) (now keys)) ⌝ }
     ensures { λ r. ⌜ Ran cutoff m source (listsOf (now (offsets .entry)) (now (heads .entry)) (now (weights .entry))) (memoryOf (now (dist .entry)) (now (preds .entry)) (now (heap .entry)) (now (places .entry)) (now (keys .entry))) (memoryOf (now (dist .exit)) (now (preds .exit)) (now (heap .exit)) (now (places .exit)) (now (keys .exit))) r ⌝ }
 {
-    prepare(m, dist, preds, places, keys);
+    prepare(m, dist, preds, heap, places);
     let found = search_f64(
         m,
         source,

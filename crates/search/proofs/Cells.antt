@@ -14,14 +14,13 @@ use lib.Seq.{getD-set-same, getD-set-other}
 use borrow.Author.Tests.{lt-ltb}
 use mir.Syntax.{w64}
 use mir.Val.{SFits}
-use Rattle.whole.specs.Zed.{_⊕_, zed, sum}
+use Rattle.whole.specs.Zed.{_⊕_, zed, sum, le-in}
 use Rattle.clean.proofs.Filled.{no-default}
 use Rattle.clean.specs.None.{noneI64, noneU32}
-use Rattle.bag.specs.Ints.{ints}
+use Rattle.bag.specs.Ints.{ints, Near}
 use Rattle.bag.specs.Bag.{NotAbove}
 use Rattle.bag.proofs.Content.{content-long}
-use Rattle.bag.proofs.Signed.{ints-okay}
-use Rattle.bag.proofs.Empty.{cleared-bag, cleared-content}
+use Rattle.bag.proofs.Empty.{cleared-ints, cleared-content}
 use Rattle.bag.specs.Order.{pick}
 use Rattle.pending.specs.Setting.{upd, End}
 use Rattle.pending.specs.Literal.{better}
@@ -170,6 +169,20 @@ pub key-past : (h : List ℤ) (d : ℤ) (v : ℕ) → length h ≤ v → d ≡ k
 unfolding keyOf
 key-past h d v l = let e : getD h v (pos 0) ≡ pos 0 = List·getD-eq-default h (pos 0) l in let k : d ≡ d ⊕ pos 0 = omega (arith, zed, sum d (pos 0)) in k ∙ ap (λ (z : ℤ). d ⊕ z) (sym e)
 
+-- a number not past 2^52 is one that the bag has room for
+near-in : (z : ℤ) → negsuc (2 ^ 52) ≤ℤ z → z ≤ℤ pos (2 ^ 52) → Near z
+near-in (pos n) a b = record { up = omega (arith, le-in (pos n) (pos (2 ^ 52)) b); down = omega arith }
+near-in (negsuc n) a b = record { up = omega arith; down = omega (arith, le-in (negsuc (2 ^ 52)) (negsuc n) a) }
+
+-- so is the key of an index whose heuristic is fair
+pub key-near : (h : List ℤ) (d : ℤ) (v : ℕ) → Fair h v → pos 0 ≤ℤ d → d ≤ℤ pos (far + dear) → Near (keyOf h d v)
+unfolding keyOf
+key-near h d v f a b =
+    let g = getD h v (pos 0) in
+    let low : negsuc (2 ^ 42 - 1) ≤ℤ g = f .low in
+    let high : g ≤ℤ pos (2 ^ 42) = f .high in
+    near-in (d ⊕ g) (omega (arith, zed, sum d g)) (omega (arith, zed, sum d g))
+
 -- ---- the lists before a search
 -- one value everywhere
 pub getD-same : {X : Type 0} (m : ℕ) (x : X) (v : ℕ) → getD (replicate m x) v x ≡ x
@@ -180,7 +193,7 @@ getD-same (suc m) x (suc v) = getD-same m x v
 module _ {m : ℕ} {M : Memory} (f : Fresh m M) where
   -- an empty bag
   pub empty-bag : BagOf M 0
-  empty-bag = cleared-bag ints (M .heap) (M .places) (M .keys) m (f .places) (f .heap) (f .keys) (ints-okay _)
+  empty-bag = cleared-ints (M .heap) (M .places) (M .keys) m (f .few) (f .heap) (f .places) (f .keys)
 
   -- nothing in it
   pub empty-content : (v : ℕ) → getD (pendingIn M) v none ≡ none

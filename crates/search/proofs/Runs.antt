@@ -60,31 +60,32 @@ parts {m} {M} w = record {
 }
 
 -- ---- the first entries, cleared and searched
-module _ {m : ℕ} {M : Memory} (w : Roomy m M) {d : List ℤ} {p i : List ℕ} (d-is : d ≡ filled m noneI64 (M .dist)) (p-is : p ≡ filled m noneU32 (M .preds)) (i-is : i ≡ filled m 0 (M .places)) where
+module _ {m : ℕ} {M : Memory} (w : Roomy m M) {d : List ℤ} {p h i : List ℕ} (d-is : d ≡ filled m noneI64 (M .dist)) (p-is : p ≡ filled m noneU32 (M .preds)) (h-is : h ≡ filled m 0 (M .heap)) (i-is : i ≡ filled m 0 (M .places)) where
   -- there is room still
-  pub roomy : Roomy m (memoryOf d p (M .heap) i (M .keys))
+  pub roomy : Roomy m (memoryOf d p h i (M .keys))
   roomy = record {
     dist = rw (kept-filled noneI64 (w .dist) d-is .long) (w .dist);
     preds = rw (kept-filled noneU32 (w .preds) p-is .long) (w .preds);
-    heap = w .heap;
+    heap = rw (kept-filled 0 (w .heap) h-is .long) (w .heap);
     places = rw (kept-filled 0 (w .places) i-is .long) (w .places);
     keys = w .keys;
   }
 
   -- nothing has a distance, nothing is pending
-  pub fresh : Fresh m (firsts m (memoryOf d p (M .heap) i (M .keys)))
-  fresh = record {
+  pub fresh : m ≤ 1024 → Fresh m (firsts m (memoryOf d p h i (M .keys)))
+  fresh few = record {
+    few = few;
     dist = filled-first m noneI64 (M .dist) d d-is;
     preds = filled-first m noneU32 (M .preds) p p-is;
     places = filled-first m 0 (M .places) i i-is;
-    heap = length-take-le m (M .heap) (w .heap);
+    heap = filled-first m 0 (M .heap) h h-is;
     keys = length-take-le m (M .keys) (w .keys);
   }
 
   -- a part that was searched stands before the rest
-  module _ (d′ : List ℤ) (p′ h′ i′ : List ℕ) (k′ : List ℤ) (ld : length d′ ≡ length (take m d)) (lp : length p′ ≡ length (take m p)) (lh : length h′ ≡ length (take m (M .heap))) (li : length i′ ≡ length (take m i)) (lk : length k′ ≡ length (take m (M .keys))) where
+  module _ (d′ : List ℤ) (p′ h′ i′ : List ℕ) (k′ : List ℤ) (ld : length d′ ≡ length (take m d)) (lp : length p′ ≡ length (take m p)) (lh : length h′ ≡ length (take m h)) (li : length i′ ≡ length (take m i)) (lk : length k′ ≡ length (take m (M .keys))) where
     abbrev after : Memory
-    after = memoryOf (d′ ++ drop m d) (p′ ++ drop m p) (h′ ++ drop m (M .heap)) (i′ ++ drop m i) (k′ ++ drop m (M .keys))
+    after = memoryOf (d′ ++ drop m d) (p′ ++ drop m p) (h′ ++ drop m h) (i′ ++ drop m i) (k′ ++ drop m (M .keys))
 
     nd : length d′ ≡ m
     nd = ld ∙ sym (parts roomy .dist)
@@ -102,14 +103,14 @@ module _ {m : ℕ} {M : Memory} (w : Roomy m M) {d : List ℤ} {p i : List ℕ} 
     nk = lk ∙ sym (parts roomy .keys)
 
     first-is : memoryOf d′ p′ h′ i′ k′ ≡ firsts m after
-    first-is = sym (λ j. memoryOf (take-at d′ (drop m d) m nd j) (take-at p′ (drop m p) m np j) (take-at h′ (drop m (M .heap)) m nh j) (take-at i′ (drop m i) m ni j) (take-at k′ (drop m (M .keys)) m nk j))
+    first-is = sym (λ j. memoryOf (take-at d′ (drop m d) m nd j) (take-at p′ (drop m p) m np j) (take-at h′ (drop m h) m nh j) (take-at i′ (drop m i) m ni j) (take-at k′ (drop m (M .keys)) m nk j))
 
     -- the rest of each list stays
     pub kept : KeptMemory m M after
     kept = record {
       dist = kept-more (kept-filled noneI64 (w .dist) d-is) (kept-first d′ d (roomy .dist) nd);
       preds = kept-more (kept-filled noneU32 (w .preds) p-is) (kept-first p′ p (roomy .preds) np);
-      heap = kept-first h′ (M .heap) (w .heap) nh;
+      heap = kept-more (kept-filled 0 (w .heap) h-is) (kept-first h′ h (roomy .heap) nh);
       places = kept-more (kept-filled 0 (w .places) i-is) (kept-first i′ i (roomy .places) ni);
       keys = kept-first k′ (M .keys) (w .keys) nk;
     }

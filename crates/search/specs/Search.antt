@@ -80,10 +80,11 @@ predOut (some p) = p
 
 -- the lists before the search: nothing has a distance, nothing is pending
 pub record Fresh (m : ℕ) (M : Memory) : Type 0 where
+  pub few : m ≤ 1024
   pub dist : M .dist ≡ replicate m noneI64
   pub preds : M .preds ≡ replicate m noneU32
+  pub heap : M .heap ≡ replicate m 0
   pub places : M .places ≡ replicate m 0
-  pub heap : length (M .heap) ≡ m
   pub keys : length (M .keys) ≡ m
 
 -- ---- the answer

@@ -231,12 +231,13 @@ pub fn search(
 }
 
 // Nothing has a distance and nothing is pending, in the first m entries.
-fn clear(m: usize, dist: &mut [i64], preds: &mut [u32], places: &mut [usize])
-    requires { ⌜ (m ≤ length (now dist)) × (m ≤ length (now preds)) × (m ≤ length (now places)) ⌝ }
-    ensures { λ _. ⌜ (now (dist .exit) ≡ filled m noneI64 (now (dist .entry))) × (now (preds .exit) ≡ filled m noneU32 (now (preds .entry))) × (now (places .exit) ≡ filled m 0 (now (places .entry))) ⌝ }
+fn clear(m: usize, dist: &mut [i64], preds: &mut [u32], heap: &mut [usize], places: &mut [usize])
+    requires { ⌜ (m ≤ length (now dist)) × (m ≤ length (now preds)) × (m ≤ length (now heap)) × (m ≤ length (now places)) ⌝ }
+    ensures { λ _. ⌜ (now (dist .exit) ≡ filled m noneI64 (now (dist .entry))) × (now (preds .exit) ≡ filled m noneU32 (now (preds .entry))) × (now (heap .exit) ≡ filled m 0 (now (heap .entry))) × (now (places .exit) ≡ filled m 0 (now (places .entry))) ⌝ }
 {
     clean::blank_i64(dist, m);
     clean::blank_u32(preds, m);
+    clean::clear_usize(heap, m);
     clean::clear_usize(places, m);
 }
 
@@ -259,7 +260,7 @@ pub fn run(
     requires { ⌜ Roomy m (memoryOf (now dist) (now preds) (now heap) (now places) (now keys)) ⌝ }
     ensures { λ r. ⌜ Ran (askedOf m source target (now (guess .entry))) (listsOf (now (offsets .entry)) (now (heads .entry)) (now (weights .entry))) (memoryOf (now (dist .entry)) (now (preds .entry)) (now (heap .entry)) (now (places .entry)) (now (keys .entry))) (memoryOf (now (dist .exit)) (now (preds .exit)) (now (heap .exit)) (now (places .exit)) (now (keys .exit))) (r .number) (r .takes) ⌝ }
 {
-    clear(m, dist, preds, places);
+    clear(m, dist, preds, heap, places);
     search(
         m,
         source,

@@ -16,7 +16,7 @@ use Rattle.walks.specs.Pigeon.{In, here, there}
 use Rattle.bag.specs.Content.{contentOf, IsLeast}
 use Rattle.bag.specs.Bag.{Bag}
 use Rattle.bag.specs.Keys.{Keys}
-use Rattle.bag.proofs.Content.{held-place}
+use Rattle.bag.proofs.Empty.{none-held}
 use Rattle.pending.specs.Setting.{upd, isTarget, refused}
 use Rattle.pending.proofs.One.{cell-ok}
 use Rattle.pending.specs.OnePlace.{Cell, has, distOf, doneAt, begin, Takes, NewCell, stays, stores, Next, empty, found, wrong}
@@ -53,14 +53,6 @@ pub upto-below : (m v : ℕ) → In v (upto m) → v < m
 upto-below zero v i = elim i [ ]
 upto-below (suc m) v (here e) = omega arith
 upto-below (suc m) v (there i) = omega (arith, upto-below m v i)
-
--- a bag of no pairs holds no key
-pub none-held : {K : Type 0} {o : Keys K} {heap places : List ℕ} {keys : List K} {n : ℕ} → Bag o heap places keys n → n ≡ 0 → (v : ℕ) → getD (contentOf places keys) v none ≡ none
-none-held {K} {o} {heap} {places} {keys} {n} b z v = go (getD (contentOf places keys) v none) refl
-  where
-    go : (x : Option K) → getD (contentOf places keys) v none ≡ x → getD (contentOf places keys) v none ≡ none
-    go none e = e
-    go (some k) e = let h = held-place places keys (o .none) v k (b .long) e in absurd (omega (arith, b .maps .back v (h .0) (h .1)))
 
 -- a pending cell that is taken
 pub unmark : {K C : Type 0} (Y : Kind K C) (ds : List K) (ps : List ℕ) (ct : List (Option K)) (u : ℕ) (d : K) (p : Option ℕ) → cells Y ds ps ct u ≡ has d p true
@@ -213,7 +205,7 @@ module _ {K C : Type 0} (Y : Kind K C) (m : ℕ) (target : Option ℕ) (source :
       pub rests : n ≤ 0 → {number takes : ℕ} → number ≡ 0 → takes ≡ t → Searched Y m target source nb M number takes
       rests l z y = record {
         end = doneAt (cellsOf Y M) t;
-        ends = w .leads .to _ (empty (holds-empty (settingOf Y target source) (holds-for Y target source (w .good .holds)) (none-held (w .good .bag) (omega arith))));
+        ends = w .leads .to _ (empty (holds-empty (settingOf Y target source) (holds-for Y target source (w .good .holds)) (none-held (Y .blank) (M .places) (M .keys) (w .good .bag .long) (omega (arith, w .good .bag .many)))));
         is = z;
         many = y;
         shows = λ x. record { dist = w .good .tidyD; preds = w .good .tidyP };

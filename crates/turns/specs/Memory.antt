@@ -4,12 +4,11 @@ use mathlib.Core.Path.{_≡_}
 use mathlib.Core.Bool.{Bool, true, false}
 use mathlib.Core.List.{List}
 use mathlib.Core.Option.{Option, none, some}
-use Prim.Native.Nat.{ℕ}
+use Prim.Native.Nat.{ℕ, _≤_}
 use lib.Dec.{ltb}
 use lib.ListN.{length, getD, replicate}
 use Rattle.clean.specs.None.{noneU32, shown}
 use Rattle.bag.specs.Order.{pick}
-use Rattle.bag.specs.Keys.{Okay}
 use Rattle.bag.specs.Content.{contentOf}
 use Rattle.bag.specs.Bag.{Bag}
 use Rattle.pending.specs.Setting.{End}
@@ -58,12 +57,12 @@ module _ {K C : Type 0} (Y : Kind K C) where
 
   -- the lists before a search: nothing has a distance, nothing is pending
   pub record Fresh (m : ℕ) (M : Memory K) : Type 0 where
+    pub few : m ≤ 1024
     pub dist : M .dist ≡ replicate m (Y .blank)
     pub preds : M .preds ≡ replicate m noneU32
+    pub heap : M .heap ≡ replicate m 0
     pub places : M .places ≡ replicate m 0
-    pub heap : length (M .heap) ≡ m
     pub keys : length (M .keys) ≡ m
-    pub okay : Okay (Y .order) (M .keys)
 
   -- the lists show an answer: each distance and each predecessor, none where there is none
   pub record Shows (e : End K) (M : Memory K) : Type 0 where

@@ -14,7 +14,6 @@ use Rattle.bag.specs.Floats.{floats}
 use Rattle.bag.specs.Content.{contentOf}
 use Rattle.bag.specs.Bag.{NotAbove}
 use Rattle.turns.specs.Row.{past, kept, stored}
-use Rattle.dijkstra_path.proofs.Floats.{dist-key}
 use Rattle.dijkstra_path.proofs.Tests.{cut-is, better-is}
 
 plus-requires : tie.Need-plus-requires
@@ -59,7 +58,7 @@ push-or-lower-requires c κs =
         s .pre .inB,
         (
           subst (NotAbove floats (contentOf (s .args .places .now) (s .args .keys .now)) (s .args .v)) (sym (c .before .before .before .before .before .before .before .before .before .before .before .before .before .before .before .before .plus .ensures)) (s .pre .lower b),
-          dist-key _ (subst (Dist binary64) (sym (c .before .before .before .before .before .before .before .before .before .before .before .before .before .before .before .before .plus .ensures)) (plus-dist (s .args .d) (s .args .bits) (s .pre .dist) (s .pre .cost))),
+          (subst (Dist binary64) (sym (c .before .before .before .before .before .before .before .before .before .before .before .before .before .before .before .before .plus .ensures)) (plus-dist (s .args .d) (s .args .bits) (s .pre .dist) (s .pre .cost))),
         ),
       ),
     )

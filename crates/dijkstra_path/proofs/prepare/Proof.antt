@@ -13,8 +13,8 @@ blank-u32-requires c κs = search needs
 clear-usize-requires : tie.Need-clear-usize-requires
 clear-usize-requires c κs = search needs
 
-clear-f64-requires : tie.Need-clear-f64-requires
-clear-f64-requires c κs = search needs
+clear-usize-requires-2 : tie.Need-clear-usize-requires-2
+clear-usize-requires-2 c κs = search needs
 
 same-length : tie.Need-same-length
 same-length c = search needs
@@ -29,7 +29,7 @@ same-length-4 : tie.Need-same-length-4
 same-length-4 c = search needs
 
 returns : tie.Need-returns
-returns c = (c .before .before .before .before .before .before .before .before .before .before .before .before .before .before .blank-f64 .ensures, (c .before .before .before .before .before .before .before .before .before .before .blank-u32 .ensures, (c .before .before .before .before .before .before .clear-usize .ensures, c .before .before .clear-f64 .ensures)))
+returns c = (c .before .before .before .before .before .before .before .before .before .before .before .before .before .before .blank-f64 .ensures, (c .before .before .before .before .before .before .before .before .before .before .blank-u32 .ensures, (c .before .before .before .before .before .before .clear-usize .ensures, c .before .before .clear-usize2 .ensures)))
 
 pub prepare-spec : {M : Type 1} → statement M
 prepare-spec =
@@ -38,7 +38,7 @@ prepare-spec =
     blank-f64-requires
     blank-u32-requires
     clear-usize-requires
-    clear-f64-requires
+    clear-usize-requires-2
     same-length
     same-length-2
     same-length-3

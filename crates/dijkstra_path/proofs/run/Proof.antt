@@ -3,7 +3,6 @@
 use borrow.Author.Needs.{needs}
 use Rattle.dijkstra_path.proofs.run.Statement.{statement}
 use Rattle.dijkstra_path.proofs.run.Tie as tie
-use lib.Ieee.{binary64, ofBits}
 use Rattle.clean.specs.None.{noneF64, noneU32}
 use Rattle.dijkstra_path.proofs.Runs.{take-long, part-long, part-fresh, ran}
 
@@ -26,22 +25,22 @@ slice-relend-prefix-search-f64-3 : tie.Need-slice-relend-prefix-search-f64-3
 slice-relend-prefix-search-f64-3 c = search needs
 
 slice-aggregate-search-f64-3 : tie.Need-slice-aggregate-search-f64-3
-slice-aggregate-search-f64-3 c = let s = c .before .before .before .before .before .before .before .before .before .before .before .before .before .before .before .before .before .before .before .before .before .before .before .before in take-long (s .args .m) (s .args .heap .now) (s .pre .1 .1 .heap)
+slice-aggregate-search-f64-3 c = let s = c .before .before .before .before .before .before .before .before .before .before .before .before .before .before .before .before .before .before .before .before .before .before .before .before in part-long (s .args .m) 0 (s .args .heap .now) (s .pre .1 .1 .heap) (c .before .before .before .before .before .before .before .before .before .before .before .prepare .ensures .1 .1 .0)
 
 slice-relend-prefix-search-f64-4 : tie.Need-slice-relend-prefix-search-f64-4
 slice-relend-prefix-search-f64-4 c = search needs
 
 slice-aggregate-search-f64-4 : tie.Need-slice-aggregate-search-f64-4
-slice-aggregate-search-f64-4 c = let s = c .before .before .before .before .before .before .before .before .before .before .before .before .before .before .before .before .before .before .before .before .before .before .before .before .before in part-long (s .args .m) 0 (s .args .places .now) (s .pre .1 .1 .places) (c .before .before .before .before .before .before .before .before .before .before .before .before .prepare .ensures .1 .1 .0)
+slice-aggregate-search-f64-4 c = let s = c .before .before .before .before .before .before .before .before .before .before .before .before .before .before .before .before .before .before .before .before .before .before .before .before .before in part-long (s .args .m) 0 (s .args .places .now) (s .pre .1 .1 .places) (c .before .before .before .before .before .before .before .before .before .before .before .before .prepare .ensures .1 .1 .1)
 
 slice-relend-prefix-search-f64-5 : tie.Need-slice-relend-prefix-search-f64-5
 slice-relend-prefix-search-f64-5 c = search needs
 
 slice-aggregate-search-f64-5 : tie.Need-slice-aggregate-search-f64-5
-slice-aggregate-search-f64-5 c = let s = c .before .before .before .before .before .before .before .before .before .before .before .before .before .before .before .before .before .before .before .before .before .before .before .before .before .before in part-long (s .args .m) (ofBits binary64 0) (s .args .keys .now) (s .pre .1 .1 .keys) (c .before .before .before .before .before .before .before .before .before .before .before .before .before .prepare .ensures .1 .1 .1)
+slice-aggregate-search-f64-5 c = let s = c .before .before .before .before .before .before .before .before .before .before .before .before .before .before .before .before .before .before .before .before .before .before .before .before .before .before in take-long (s .args .m) (s .args .keys .now) (s .pre .1 .1 .keys)
 
 search-f64-requires : tie.Need-search-f64-requires
-search-f64-requires c κs = let s = c .before .before .before .before .before .before .before .before .before .before .before .before .before .before .before .before .before .before .before .before .before .before .before .before .before .before in (s .pre .0, (s .pre .1 .0, part-fresh (s .pre .1 .1) (c .before .before .before .before .before .before .before .before .before .before .before .before .before .prepare .ensures .0) (c .before .before .before .before .before .before .before .before .before .before .before .before .before .prepare .ensures .1 .0) (c .before .before .before .before .before .before .before .before .before .before .before .before .before .prepare .ensures .1 .1 .0) (c .before .before .before .before .before .before .before .before .before .before .before .before .before .prepare .ensures .1 .1 .1) (s .args .cutoff)))
+search-f64-requires c κs = let s = c .before .before .before .before .before .before .before .before .before .before .before .before .before .before .before .before .before .before .before .before .before .before .before .before .before .before in (s .pre .0, (s .pre .1 .0, part-fresh (s .pre .1 .1) (c .before .before .before .before .before .before .before .before .before .before .before .before .before .prepare .ensures .0) (c .before .before .before .before .before .before .before .before .before .before .before .before .before .prepare .ensures .1 .0) (c .before .before .before .before .before .before .before .before .before .before .before .before .before .prepare .ensures .1 .1 .0) (c .before .before .before .before .before .before .before .before .before .before .before .before .before .prepare .ensures .1 .1 .1) (s .args .cutoff) (s .pre .0 .bounded)))
 
 same-length : tie.Need-same-length
 same-length c = search needs

@@ -9,6 +9,7 @@ use lib.Ieee.{ofBits}
 use lib.ListN.{length, length-replicate}
 use Rattle.clean.specs.None.{noneF64, noneU32}
 use Rattle.float.specs.Dist.{zero64}
+use Rattle.float.proofs.Cost.{zero-dist}
 use Rattle.turns.proofs.Cells.{empty-bag, empty-lower}
 
 store-requires : tie.Need-store-requires
@@ -18,8 +19,8 @@ name-requires : tie.Need-name-requires
 name-requires c κs = let s = c .before .before .before .before .before .before .before .before .before .before in omega (arith, s .pre .1, ap length (s .pre .0 .preds), length-replicate (length (s .args .places .now)) noneU32)
 
 push-or-lower-requires : tie.Need-push-or-lower-requires
-unfolding ofBits
-push-or-lower-requires c κs = let s = c .before .before .before .before .before .before .before .before .before .before .before .before .before .before .before .before in (empty-bag (s .pre .0), (s .pre .1, (empty-lower (s .pre .0) (s .args .source) _, tt)))
+unfolding zero64
+push-or-lower-requires c κs = let s = c .before .before .before .before .before .before .before .before .before .before .before .before .before .before .before .before in (empty-bag (s .pre .0), (s .pre .1, (empty-lower (s .pre .0) (s .args .source) _, zero-dist)))
 
 same-length : tie.Need-same-length
 same-length c = search needs

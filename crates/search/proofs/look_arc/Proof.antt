@@ -16,10 +16,11 @@ use Rattle.whole.specs.Zed.{_⊕_, zed, sum}
 use Rattle.pending.proofs.Falls.{nonneg}
 use Rattle.clean.specs.None.{noneI64}
 use Rattle.bag.specs.Content.{contentOf}
-use Rattle.bag.specs.Ints.{ints}
+use Rattle.bag.specs.Ints.{ints, Near}
 use Rattle.bag.specs.Bag.{NotAbove}
 use Rattle.search.specs.Search.{keyOf, dear}
 use Rattle.search.specs.Steps.{far, kept, stored, betterThan}
+use Rattle.search.proofs.Cells.{key-near}
 use Rattle.search.proofs.look_arc.Statement.{statement}
 use Rattle.search.proofs.look_arc.Tie as tie
 use Rattle.search.proofs.look_arc.Reads as reads
@@ -83,9 +84,13 @@ key-requires c κs =
 
 push-or-lower-requires : tie.Need-push-or-lower-requires
 push-or-lower-requires c κs =
-    let s = c .before .before .before .before .before .before .before .before .before .before .before .before .before .before .before .before .before .before in (
+    let s = c .before .before .before .before .before .before .before .before .before .before .before .before .before .before .before .before .before .before in
+    let a : pos 0 ≤ℤ s .args .d = s .pre .low in
+    let b : s .args .d ≤ℤ pos far = s .pre .high in
+    let x : pos 0 ≤ℤ s .args .c = s .pre .cost in
+    let y : s .args .c ≤ℤ pos dear = s .pre .cheap in (
       s .pre .bag,
-      (s .pre .inB, subst (NotAbove ints (contentOf (s .args .places .now) (s .args .keys .now)) (s .args .v)) (sym (k-is (c .before .before .before))) (s .pre .lower (sym (better-gave (c .before .before .before .before .before .before .before .before .before .before .before .before)) ∙ not-false _ (c .before .before .before .before .before .before .before .before .before .before .before .if1 .left)))),
+      (s .pre .inB, (subst (NotAbove ints (contentOf (s .args .places .now) (s .args .keys .now)) (s .args .v)) (sym (k-is (c .before .before .before))) (s .pre .lower (sym (better-gave (c .before .before .before .before .before .before .before .before .before .before .before .before)) ∙ not-false _ (c .before .before .before .before .before .before .before .before .before .before .before .if1 .left))), subst Near (sym (k-is (c .before .before .before))) (key-near _ (s .args .d ⊕ s .args .c) _ (s .pre .fair) (omega (arith, zed, sum (s .args .d) (s .args .c))) (omega (arith, zed, sum (s .args .d) (s .args .c)))))),
     )
 
 same-length-2 : tie.Need-same-length-2

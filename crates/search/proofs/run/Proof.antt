@@ -16,34 +16,34 @@ slice-relend-prefix-search : tie.Need-slice-relend-prefix-search
 slice-relend-prefix-search c = search needs
 
 slice-aggregate-search : tie.Need-slice-aggregate-search
-slice-aggregate-search c = let t = c .before .before .before .before .before .before in parts (roomy (t .before .before .before .before .before .before .before .before .before .pre .1) (t .clear .ensures .0) (t .clear .ensures .1) (t .clear .ensures .2)) .dist
+slice-aggregate-search c = let t = c .before .before .before .before .before .before .before .before in parts (roomy (t .before .before .before .before .before .before .before .before .before .before .pre .1) (t .clear .ensures .0) (t .clear .ensures .1) (t .clear .ensures .2) (t .clear .ensures .3)) .dist
 
 slice-relend-prefix-search-2 : tie.Need-slice-relend-prefix-search-2
 slice-relend-prefix-search-2 c = search needs
 
 slice-aggregate-search-2 : tie.Need-slice-aggregate-search-2
-slice-aggregate-search-2 c = let t = c .before .before .before .before .before .before .before in parts (roomy (t .before .before .before .before .before .before .before .before .before .pre .1) (t .clear .ensures .0) (t .clear .ensures .1) (t .clear .ensures .2)) .preds
+slice-aggregate-search-2 c = let t = c .before .before .before .before .before .before .before .before .before in parts (roomy (t .before .before .before .before .before .before .before .before .before .before .pre .1) (t .clear .ensures .0) (t .clear .ensures .1) (t .clear .ensures .2) (t .clear .ensures .3)) .preds
 
 slice-relend-prefix-search-3 : tie.Need-slice-relend-prefix-search-3
 slice-relend-prefix-search-3 c = search needs
 
 slice-aggregate-search-3 : tie.Need-slice-aggregate-search-3
-slice-aggregate-search-3 c = let t = c .before .before .before .before .before .before .before .before in parts (roomy (t .before .before .before .before .before .before .before .before .before .pre .1) (t .clear .ensures .0) (t .clear .ensures .1) (t .clear .ensures .2)) .heap
+slice-aggregate-search-3 c = let t = c .before .before .before .before .before .before .before .before .before .before in parts (roomy (t .before .before .before .before .before .before .before .before .before .before .pre .1) (t .clear .ensures .0) (t .clear .ensures .1) (t .clear .ensures .2) (t .clear .ensures .3)) .heap
 
 slice-relend-prefix-search-4 : tie.Need-slice-relend-prefix-search-4
 slice-relend-prefix-search-4 c = search needs
 
 slice-aggregate-search-4 : tie.Need-slice-aggregate-search-4
-slice-aggregate-search-4 c = let t = c .before .before .before .before .before .before .before .before .before in parts (roomy (t .before .before .before .before .before .before .before .before .before .pre .1) (t .clear .ensures .0) (t .clear .ensures .1) (t .clear .ensures .2)) .places
+slice-aggregate-search-4 c = let t = c .before .before .before .before .before .before .before .before .before .before .before in parts (roomy (t .before .before .before .before .before .before .before .before .before .before .pre .1) (t .clear .ensures .0) (t .clear .ensures .1) (t .clear .ensures .2) (t .clear .ensures .3)) .places
 
 slice-relend-prefix-search-5 : tie.Need-slice-relend-prefix-search-5
 slice-relend-prefix-search-5 c = search needs
 
 slice-aggregate-search-5 : tie.Need-slice-aggregate-search-5
-slice-aggregate-search-5 c = let t = c .before .before .before .before .before .before .before .before .before .before in parts (roomy (t .before .before .before .before .before .before .before .before .before .pre .1) (t .clear .ensures .0) (t .clear .ensures .1) (t .clear .ensures .2)) .keys
+slice-aggregate-search-5 c = let t = c .before .before .before .before .before .before .before .before .before .before .before .before in parts (roomy (t .before .before .before .before .before .before .before .before .before .before .pre .1) (t .clear .ensures .0) (t .clear .ensures .1) (t .clear .ensures .2) (t .clear .ensures .3)) .keys
 
 search-requires : tie.Need-search-requires
-search-requires c κs = let t = c .before .before .before .before .before .before .before .before .before .before in let s = t .before .before .before .before .before .before .before .before .before in (s .pre .0, fresh (s .pre .1) (t .clear .ensures .0) (t .clear .ensures .1) (t .clear .ensures .2))
+search-requires c κs = let t = c .before .before .before .before .before .before .before .before .before .before .before .before in let s = t .before .before .before .before .before .before .before .before .before .before in (s .pre .0, fresh (s .pre .1) (t .clear .ensures .0) (t .clear .ensures .1) (t .clear .ensures .2) (t .clear .ensures .3) (s .pre .0 .rows .bounded))
 
 same-length : tie.Need-same-length
 same-length c = search needs
@@ -62,11 +62,11 @@ same-length-5 c = search needs
 
 returns : tie.Need-returns
 returns c =
-    let t = c .before .before .before .before .before .before .before .before .before .before .before .before .before .before .before .before .before .before .before in
-    let s = t .before .before .before .before .before .before .before .before .before in
+    let t = c .before .before .before .before .before .before .before .before .before .before .before .before .before .before .before .before .before .before .before .before .before in
+    let s = t .before .before .before .before .before .before .before .before .before .before in
     let r = c .before .before .before .before .before .before .before .before in
     let k = r .search .kept .1 .1 .1 .1 .1 .1 .1 in
-    ran (s .pre .1) (t .clear .ensures .0) (t .clear .ensures .1) (t .clear .ensures .2) _ _ _ _ _ (k .0) (k .1 .0) (k .1 .1 .0) (k .1 .1 .1 .0) (k .1 .1 .1 .1 .0) (r .search .ensures)
+    ran (s .pre .1) (t .clear .ensures .0) (t .clear .ensures .1) (t .clear .ensures .2) (t .clear .ensures .3) _ _ _ _ _ (k .0) (k .1 .0) (k .1 .1 .0) (k .1 .1 .1 .0) (k .1 .1 .1 .1 .0) (r .search .ensures)
 
 pub run-spec : {M : Type 1} → statement M
 run-spec =

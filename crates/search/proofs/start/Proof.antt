@@ -1,6 +1,6 @@
 -- `search::start` meets its contract.
 -- Assumes nothing.
-use mathlib.Core.Path.{_≡_, ap, _∙_}
+use mathlib.Core.Path.{_≡_, sym, ap, subst, _∙_}
 use mathlib.Core.Option.{some}
 use native.Mathlib.Omega.{arith}
 use borrow.Author.Needs.{needs, sfits-of}
@@ -9,10 +9,12 @@ use lib.ListN.{length, set, length-replicate}
 use mir.Syntax.{w64}
 use mir.Val.{toZ, ofZ}
 use mir.ValLaws.{toZ-ofZ}
+use Rattle.whole.specs.Zed.{zed}
 use Rattle.clean.specs.None.{noneI64, noneU32}
 use Rattle.bag.specs.Content.{contentOf}
+use Rattle.bag.specs.Ints.{Near}
 use Rattle.search.specs.Search.{keyOf}
-use Rattle.search.proofs.Cells.{empty-bag, empty-lower}
+use Rattle.search.proofs.Cells.{key-near, empty-bag, empty-lower}
 use Rattle.search.proofs.start.Statement.{statement}
 use Rattle.search.proofs.start.Tie as tie
 use Rattle.search.proofs.start.Reads as reads
@@ -38,7 +40,7 @@ key-requires c κs = search needs
 push-or-lower-requires : tie.Need-push-or-lower-requires
 push-or-lower-requires c κs =
     let s = c .before .before .before .before .before .before .before .before .before .before .before .before .before .before in
-    (empty-bag (s .pre .1 .0), (s .pre .1 .1, empty-lower (s .pre .1 .0) (s .args .source) _))
+    (empty-bag (s .pre .1 .0), (s .pre .1 .1, (empty-lower (s .pre .1 .0) (s .args .source) _, subst Near (sym (k-is (c .before .before .before))) (key-near _ (pos 0) _ (s .pre .0) (omega (arith, zed)) (omega (arith, zed))))))
 
 same-length : tie.Need-same-length
 same-length c = search needs
