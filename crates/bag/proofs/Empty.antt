@@ -7,13 +7,13 @@ use Prim.Native.Nat.{ℕ, zero, suc, _+_, _-_, _≤_}
 use native.Mathlib.Omega.{arith}
 use borrow.Author.Tests.{ltb-true, ltb-false}
 use lib.Dec.{ltb}
-use lib.IntN.{ℤ, pos}
 use lib.ListN.{length, getD, replicate, length-replicate}
 use Rattle.bag.specs.Content.{contentOf, held}
 use Rattle.bag.specs.Keys.{Keys}
 use Rattle.bag.specs.Tree.{node, Full}
 use Rattle.bag.specs.Names.{score, nobody, Named}
-use Rattle.bag.specs.Bag.{Bag, IntBag}
+use Rattle.bag.specs.Ints.{Worded}
+use Rattle.bag.specs.Bag.{Bag}
 use Rattle.bag.proofs.Content.{held-place}
 use Rattle.bag.proofs.Climb.{node-inner, node-leaf}
 
@@ -43,7 +43,7 @@ cleared-content places keys m e k = ap (λ (l : List ℕ). contentOf l keys) e �
 
 -- ---- the empty bag
 -- so many zeros
-abbrev zeros : ℕ → List ℕ
+abbrev pub zeros : ℕ → List ℕ
 zeros m = replicate m 0
 
 -- a tree of zeros
@@ -59,7 +59,7 @@ zeros-full : (m : ℕ) → Full (length (zeros m)) (node (zeros m) (zeros m)) 0
 zeros-full m = record { larger = λ p a l n. omega (arith, node-zeros m p, node-zeros m (p + p), node-zeros m (p + p + 1)) }
 
 -- names of none
-zeros-named : (m : ℕ) → m ≤ 1024 → Named (zeros m) (zeros m)
+pub zeros-named : (m : ℕ) → m ≤ 1024 → Named (zeros m) (zeros m)
 zeros-named m few = record {
   few = omega (arith, length-replicate {A = ℕ} m 0, few);
   same = refl;
@@ -70,30 +70,21 @@ zeros-named m few = record {
   leaf = λ v l. ap (λ (x : ℕ). score x (v + 1)) (sym (getD-zeros m v));
 }
 
--- where all is 0 the bag is empty
-pub cleared-bag : {K : Type 0} (o : Keys K) (heap places : List ℕ) (keys : List K) (m : ℕ) → m ≤ 1024 → heap ≡ zeros m → places ≡ zeros m → length keys ≡ m → Bag o heap places keys 0
-cleared-bag o heap places keys m few h e k =
-    rw (h, e)
-    (record {
-      named = zeros-named m few;
-      long = k ∙ sym (length-replicate {A = ℕ} m 0);
-      many = sym (held-zeros m);
-      rank = λ v s. absurd (omega (arith, s, getD-zeros m v));
-      okay = λ v s. absurd (omega (arith, s, getD-zeros m v));
-    })
+-- words of none
+pub zeros-worded : (m : ℕ) → m ≤ 1024 → Worded (zeros m) (zeros m)
+zeros-worded m few = record { few = omega (arith, length-replicate {A = ℕ} m 0, few); same = refl; full = zeros-full m }
 
--- the same with `i64` keys
-pub cleared-ints : (heap places : List ℕ) (keys : List ℤ) (m : ℕ) → m ≤ 1024 → heap ≡ zeros m → places ≡ zeros m → length keys ≡ m → IntBag heap places keys 0
-cleared-ints heap places keys m few h e k =
+-- where all is 0 the bag is empty
+pub cleared-bag : {K : Type 0} (o : Keys K) (heap places : List ℕ) (keys : List K) (m : ℕ) → o .shape (zeros m) (zeros m) → heap ≡ zeros m → places ≡ zeros m → length keys ≡ m → Bag o heap places keys 0
+cleared-bag o heap places keys m S h e k =
     rw (h, e)
     (record {
-      few = omega (arith, length-replicate {A = ℕ} m 0, few);
       same = refl;
       long = k ∙ sym (length-replicate {A = ℕ} m 0);
       many = sym (held-zeros m);
       word = λ v s. absurd (omega (arith, s, getD-zeros m v));
-      near = λ v s. absurd (omega (arith, s, getD-zeros m v));
-      full = zeros-full m;
+      okay = λ v s. absurd (omega (arith, s, getD-zeros m v));
+      shape = S;
     })
 
 -- a place is 0 where nothing is held

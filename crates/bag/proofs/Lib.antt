@@ -3,8 +3,8 @@ pub mod Order
 pub mod Climb
 pub mod Content
 pub mod Leaders
-pub mod Ranks
-pub mod Floating
+pub mod Pairs
 pub mod Words
+pub mod Ranks
 pub mod Empty
 pub mod Least

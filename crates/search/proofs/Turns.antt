@@ -34,7 +34,8 @@ use Rattle.pending.proofs.Bound.{Bounded, begin-bounded, next-bounded, distance
 use Rattle.pending.proofs.Falls.{over}
 use Rattle.pending.proofs.Measure.{load, load-falls, over-most}
 use Rattle.bag.specs.Content.{contentOf, IsLeast}
-use Rattle.bag.specs.Bag.{IntBag}
+use Rattle.bag.specs.Bag.{Bag}
+use Rattle.bag.specs.Ints.{ints}
 use Rattle.bag.proofs.Content.{content-long}
 use Rattle.bag.proofs.Empty.{none-held}
 use Rattle.search.specs.Search.{keyOf, targetOf, dear, Asked, settingOf, Fit, Memory, distOut, predOut, Fresh, Searched}
@@ -158,7 +159,7 @@ module _ (q : Asked) (nb : Lists ℤ) where
 
     -- ---- a take
     module _ {M : Memory} {n takes : ℕ} (w : Moment M n takes) where
-      module _ {u : ℕ} {k : ℤ} {heap places : List ℕ} (l : IsLeast ltZ (pendingIn M) k u) (bag-is : IntBag heap places (M .keys) (n - 1))
+      module _ {u : ℕ} {k : ℤ} {heap places : List ℕ} (l : IsLeast ltZ (pendingIn M) k u) (bag-is : Bag ints heap places (M .keys) (n - 1))
           (content-is : contentOf places (M .keys) ≡ set (pendingIn M) u none) (long : length places ≡ q .bound) where
         -- the memory then
         abbrev pub M₁ : Memory

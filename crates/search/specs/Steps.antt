@@ -15,7 +15,7 @@ use Rattle.rows.specs.Rows.{Lists}
 use Rattle.rows.specs.RowArc.{RowArc, Sound}
 use Rattle.bag.specs.Content.{contentOf}
 use Rattle.bag.specs.Ints.{ints}
-use Rattle.bag.specs.Bag.{IntBag, NotAbove}
+use Rattle.bag.specs.Bag.{Bag, NotAbove}
 use Rattle.bag.specs.Order.{pick}
 use Rattle.pending.specs.Setting.{Setting}
 use Rattle.pending.specs.Ints.{whole}
@@ -54,7 +54,7 @@ cellsOf M = cells (M .dist) (M .preds) (pendingIn M)
 
 -- the lists hold a bag of n pairs
 abbrev pub BagOf : Memory → ℕ → Type 0
-BagOf M n = IntBag (M .heap) (M .places) (M .keys) n
+BagOf M n = Bag ints (M .heap) (M .places) (M .keys) n
 
 -- is n better than what stands there?
 unfoldable pub betterThan : ℤ → ℤ → Bool
