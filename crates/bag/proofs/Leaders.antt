@@ -17,7 +17,7 @@ use borrow.Author.Tests.{ltb-true, ltb-false, lt-ltb, le-ltb, eqb-true, eqb-fals
 use Rattle.bag.specs.Order.{pick}
 use Rattle.bag.specs.Tree.{Full}
 use Rattle.bag.specs.Names.{nameAt, wordNamed, ahead, leaderOf, score, Names, nobody, index, Named}
-use Rattle.bag.proofs.Climb.{Beside, Rise, rise-leaf, rise-inner, rise-top, rise-stop, Sink, sink-leaf, sink-step, sink-top, Leaf, leaf-of}
+use Rattle.bag.proofs.Climb.{Beside, Rise, rise-leaf, rise-inner, rise-top, rise-stop, Sink, sink-leaf, sink-step, sink-top, leaf-of}
 
 -- ---- names
 -- an inner node's

@@ -6,11 +6,10 @@ use mathlib.Core.List.{List}
 use mathlib.Core.Option.{none, some}
 use Prim.Native.Nat.{ℕ, suc, _-_, _≤_, _<_}
 use native.Mathlib.Omega.{arith}
-use lib.Dec.{T}
-use lib.ListN.{length, replicate}
-use lib.Ieee.{Float, nan, inf, fin, binary64, lt, eq, ofBits}
+use lib.ListN.{length}
+use lib.Ieee.{Float, binary64, lt, eq}
 use Rattle.clean.specs.None.{noneF64}
-use Rattle.float.specs.Dist.{Dist, zero64}
+use Rattle.float.specs.Dist.{Dist}
 use Rattle.float.specs.Cutoff.{past}
 use Rattle.float.specs.Better.{betterThan}
 use Rattle.float.specs.declared.Cutoff.{Cutoff}
@@ -30,7 +29,6 @@ use Rattle.turns.specs.Memory.{Memory, memoryOf, cellsOf, Fresh}
 use Rattle.turns.specs.Row.{betterAt, RowDone}
 use Rattle.turns.specs.Searched.{Started}
 use Rattle.turns.proofs.Lawful.{Lawful}
-use Rattle.turns.proofs.Cells.{getD-same}
 use Rattle.turns.proofs.Turns.{upto, upto-long, Moment, Popped, started, starts, turn, next}
 use Rattle.dijkstra_path.specs.Search.{read64, kind64}
 

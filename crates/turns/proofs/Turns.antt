@@ -15,7 +15,6 @@ use Rattle.rows.specs.RowArc.{RowArc, Sound}
 use Rattle.walks.specs.Pigeon.{In, here, there}
 use Rattle.bag.specs.Content.{contentOf, IsLeast}
 use Rattle.bag.specs.Bag.{Bag}
-use Rattle.bag.specs.Keys.{Keys}
 use Rattle.bag.proofs.Empty.{none-held}
 use Rattle.pending.specs.Setting.{upd, isTarget, refused}
 use Rattle.pending.proofs.One.{cell-ok}

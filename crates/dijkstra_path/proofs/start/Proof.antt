@@ -5,7 +5,6 @@ use Rattle.dijkstra_path.proofs.start.Statement.{statement}
 use Rattle.dijkstra_path.proofs.start.Tie as tie
 use mathlib.Core.Path.{ap}
 use native.Mathlib.Omega.{arith}
-use lib.Ieee.{ofBits}
 use lib.ListN.{length, length-replicate}
 use Rattle.clean.specs.None.{noneF64, noneU32}
 use Rattle.float.specs.Dist.{zero64}

@@ -1,10 +1,10 @@
 -- `bag::names::clear` meets its contract. Assumes nothing.
-use mathlib.Core.Path.{_≡_, refl, sym, ap, _∙_}
+use mathlib.Core.Path.{refl, sym, ap, _∙_}
 use mathlib.Core.List.{List}
-use Prim.Native.Nat.{ℕ, _+_, _/_, _≤_, _<_, max}
+use Prim.Native.Nat.{ℕ, max}
 use native.Mathlib.Omega.{arith}
 use borrow.Author.Needs.{needs}
-use lib.ListN.{length, getD, set, length-set}
+use lib.ListN.{set, length-set}
 use Rattle.bag.specs.Names.{wordNamed, leaderOf}
 use Rattle.bag.proofs.Leaders.{nothing, going-first, sink-first, Sinks, beside-name, sinks-next, sinks-top}
 use Rattle.bag.proofs.names.clear.Statement.{statement}

@@ -4,7 +4,7 @@ use mathlib.Core.List.{List}
 use Prim.Native.Nat.{ℕ, _+_, _≤_, _<_}
 use native.Mathlib.Omega.{arith}
 use borrow.Author.Needs.{needs}
-use lib.ListN.{length, getD, set, length-set}
+use lib.ListN.{getD, set, length-set}
 use lib.Seq.{getD-set-same}
 use Rattle.bag.specs.Names.{ahead}
 use Rattle.bag.proofs.Leaders.{going-first, rise-first, Lifts, lift-name, lift-next, lift-stop, lift-top}
