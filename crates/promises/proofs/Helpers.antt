@@ -18,9 +18,8 @@ use Rattle.net.specs.Ranks.{Ranks}
 use Rattle.rows.specs.Rows.{Lists, endLists, Rows}
 use Rattle.rows.proofs.One.{rows-one}
 use Rattle.bag.specs.Keys.{Keys}
-use Rattle.bag.specs.Heap.{held}
 use Rattle.bag.specs.Bag.{Bag}
-use Rattle.bag.specs.Content.{entry, contentOf}
+use Rattle.bag.specs.Content.{entry, contentOf, held}
 use Rattle.lines.specs.Text.{Printed}
 
 -- what the buffer holds, and where the text ends
