@@ -7,7 +7,7 @@
 
 run:
 	rt check paths
-	target/bin/paths < examples/maps/carriers.map
+	tools/run-program paths < examples/maps/carriers.map
 
 test: audit test-tools
 	bash .ci/run
