@@ -3,7 +3,8 @@
 # make audit: the documents alone, in seconds. make test-doors: the C and the Rust interface (cc, cargo).
 # make compare: the proved functions against the original and slow plain models (oracle/README.md says what it needs).
 # make bench: speed beside the original and other libraries; writes docs/BENCH.md and docs/bench.svg.
-.PHONY: run test audit test-tools test-doors test-c test-rust compare bench
+# make wrong: tries every wrong answer of tests/wrong, in some twenty minutes; no part of the gate.
+.PHONY: run test audit wrong test-tools test-doors test-c test-rust compare bench
 
 run:
 	rt check paths
@@ -17,6 +18,10 @@ audit:
 	tools/settled
 	tools/believe
 	tools/trace
+	tools/wrong --list
+
+wrong:
+	tools/wrong
 
 test-tools:
 	python3 -m unittest discover -s tests/mapfile
