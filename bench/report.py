@@ -204,7 +204,7 @@ def page(folder, maps, calls):
     main = [(f"Random, {d}", ("random", d, *LARGEST)) for d in ("directed", "undirected")]
     parts = [
         "# Speed",
-        "`make bench` writes this page and its chart anew, from one run of about three minutes on the machine that it runs on. The times are not promises: nothing about running time is proved. It needs gcc, python3 and our archive; `bench/run` names the Debian packages of the other libraries, and one that is missing is left out, with a line below that says so.",
+        "`make bench` writes this page and its chart anew, from one run of about four minutes on the machine that it runs on. The times are not promises: nothing about running time is proved. It needs gcc, python3 and our archive; `bench/run` names the Debian packages of the other libraries, and one that is missing is left out, with a line below that says so.",
         "![Time as a part of graphina's](bench.svg)",
         "## What is measured",
         INCLUDED,
