@@ -1,21 +1,16 @@
 -- The empty bag: all places are 0. Assumes nothing.
 use mathlib.Core.Path.{_≡_, refl, sym, ap, _∙_}
-use mathlib.Core.Bool.{Bool, true, false}
 use mathlib.Core.List.{List, [], _∷_}
 use mathlib.Core.Option.{Option, none, some}
-use Prim.Native.Nat.{ℕ, zero, suc, _+_, _-_, _≤_}
+use Prim.Native.Nat.{ℕ, zero, suc, _+_, _*_, _/_, _≤_}
 use native.Mathlib.Omega.{arith}
-use borrow.Author.Tests.{ltb-true, ltb-false}
-use lib.Dec.{ltb}
 use lib.ListN.{length, getD, replicate, length-replicate}
 use Rattle.bag.specs.Content.{contentOf, held}
 use Rattle.bag.specs.Keys.{Keys}
-use Rattle.bag.specs.Tree.{node, Full}
-use Rattle.bag.specs.Names.{score, nobody, Named}
-use Rattle.bag.specs.Ints.{Worded}
+use Rattle.bag.specs.Peaks.{peak, Level, Peaks}
 use Rattle.bag.specs.Bag.{Bag}
 use Rattle.bag.proofs.Content.{held-place}
-use Rattle.bag.proofs.Climb.{node-inner, node-leaf}
+use Rattle.bag.proofs.Largest.{peak-below}
 
 -- places that are all 0
 getD-zeros : (m v : ℕ) → _≡_ {A = ℕ} (getD (replicate m 0) v 0) 0
@@ -46,45 +41,27 @@ cleared-content places keys m e k = ap (λ (l : List ℕ). contentOf l keys) e �
 abbrev pub zeros : ℕ → List ℕ
 zeros m = replicate m 0
 
--- a tree of zeros
-node-zeros : (m i : ℕ) → node (zeros m) (zeros m) i ≡ 0
-node-zeros m i = go (ltb i (length (zeros m))) refl
-  where
-    go : (t : Bool) → ltb i (length (zeros m)) ≡ t → node (zeros m) (zeros m) i ≡ 0
-    go true e = node-inner (zeros m) (zeros m) i (ltb-true i (length (zeros m)) e) ∙ getD-zeros m i
-    go false e = node-leaf (zeros m) (zeros m) i (ltb-false i (length (zeros m)) e) ∙ getD-zeros m (i - length (zeros m))
+-- the largest of them is 0
+zeros-peak : (m i n : ℕ) → peak (zeros m) i n ≡ 0
+zeros-peak m i n = let h = peak-below (zeros m) i n 0 (λ k a b. omega (arith, getD-zeros m k)) in omega (arith, h)
 
--- is full
-zeros-full : (m : ℕ) → Full (length (zeros m)) (node (zeros m) (zeros m)) 0
-zeros-full m = record { larger = λ p a l n. omega (arith, node-zeros m p, node-zeros m (p + p), node-zeros m (p + p + 1)) }
+zeros-level : (m : ℕ) (at : ℕ → ℕ) (size : ℕ) → Level (zeros m) (zeros m) at size
+zeros-level m at size = record { holds = λ j p. getD-zeros m (at j) ∙ sym (zeros-peak m (j * size) size) }
 
--- names of none
-pub zeros-named : (m : ℕ) → m ≤ 1024 → Named (zeros m) (zeros m)
-zeros-named m few = record {
-  few = omega (arith, length-replicate {A = ℕ} m 0, few);
-  same = refl;
-  empty = getD-zeros m 0;
-  scores = λ i. 0;
-  full = record { larger = λ p a l n. refl };
-  inner = λ p a l. nobody (getD-zeros m p) refl;
-  leaf = λ v l. ap (λ (x : ℕ). score x (v + 1)) (sym (getD-zeros m v));
-}
-
--- words of none
-pub zeros-worded : (m : ℕ) → m ≤ 1024 → Worded (zeros m) (zeros m)
-zeros-worded m few = record { few = omega (arith, length-replicate {A = ℕ} m 0, few); same = refl; full = zeros-full m }
+-- no words
+zeros-peaks : (m : ℕ) → m ≤ 1024 → Peaks (zeros m) (zeros m)
+zeros-peaks m few = record { few = omega (arith, length-replicate {A = ℕ} m 0, few); same = refl; low = zeros-level m (λ j. j) 8; high = zeros-level m (λ j. length (zeros m) / 2 + j) 64 }
 
 -- where all is 0 the bag is empty
-pub cleared-bag : {K : Type 0} (o : Keys K) (heap places : List ℕ) (keys : List K) (m : ℕ) → o .shape (zeros m) (zeros m) → heap ≡ zeros m → places ≡ zeros m → length keys ≡ m → Bag o heap places keys 0
-cleared-bag o heap places keys m S h e k =
+pub cleared-bag : {K : Type 0} (o : Keys K) (heap places : List ℕ) (keys : List K) (m : ℕ) → m ≤ 1024 → heap ≡ zeros m → places ≡ zeros m → length keys ≡ m → Bag o heap places keys 0
+cleared-bag o heap places keys m few h e k =
     rw (h, e)
     (record {
-      same = refl;
       long = k ∙ sym (length-replicate {A = ℕ} m 0);
       many = sym (held-zeros m);
       word = λ v s. absurd (omega (arith, s, getD-zeros m v));
       okay = λ v s. absurd (omega (arith, s, getD-zeros m v));
-      shape = S;
+      shape = zeros-peaks m few;
     })
 
 -- a place is 0 where nothing is held

@@ -1,8 +1,8 @@
 pub mod Weak
 pub mod Order
-pub mod Climb
+pub mod Largest
+pub mod Firsts
 pub mod Content
-pub mod Leaders
 pub mod Pairs
 pub mod Words
 pub mod Ranks

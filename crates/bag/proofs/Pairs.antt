@@ -12,6 +12,7 @@ use lib.Seq.{getD-set-same, getD-set-other}
 use Rattle.bag.specs.Order.{before}
 use Rattle.bag.specs.Keys.{Keys}
 use Rattle.bag.specs.Content.{contentOf, IsLeast, held}
+use Rattle.bag.specs.Peaks.{Peaks}
 use Rattle.bag.specs.Bag.{Bag, NotAbove}
 use Rattle.bag.proofs.Content.{inside, Some, some-held, same-some, any-default, content-out, content-in, held-place, held-key, place-held, held-same, held-in, held-out}
 
@@ -41,16 +42,15 @@ module _ {K : Type 0} (o : Keys K) where
           })
 
       -- the rest is a bag
-      pub rest-bag : (heap′ places′ : List ℕ) → length heap′ ≡ length heap → places′ ≡ set places r 0 → o .shape heap′ places′ → Bag o heap′ places′ keys (n - 1)
-      rest-bag heap′ places′ lh e S =
+      pub rest-bag : (heap′ places′ : List ℕ) → places′ ≡ set places r 0 → Peaks heap′ places′ → Bag o heap′ places′ keys (n - 1)
+      rest-bag heap′ places′ e S =
           subst (λ (l : List ℕ). Bag o heap′ l keys (n - 1)) (sym e)
           (record {
-            same = lh ∙ B .same ∙ sym long;
             long = B .long ∙ sym long;
             many = omega (arith, B .many, held-out places r (getD places r 0 - 1) (omega (arith, has)));
             word = λ v h. let q = other v h in q .0 ∙ B .word v (q .1);
             okay = λ v h. B .okay v (other v h .1);
-            shape = subst (o .shape heap′) e S;
+            shape = subst (Peaks heap′) e S;
           })
         where
           long : length (set places r 0) ≡ length places
@@ -90,16 +90,15 @@ module _ {K : Type 0} (o : Keys K) where
     no-more s = B .many ∙ held-same places (set places v (o .word k v)) (sym (length-set places v (o .word k v))) (same-some places v (o .word k v) s some-word)
 
     -- the bag then
-    pub pushed-bag : (heap′ places′ : List ℕ) (r : ℕ) → length heap′ ≡ length heap → places′ ≡ set places v (o .word k v) → o .shape heap′ places′ → r ≡ held (set places v (o .word k v)) → Bag o heap′ places′ (set keys v k) r
-    pushed-bag heap′ places′ r lh e S many =
+    pub pushed-bag : (heap′ places′ : List ℕ) (r : ℕ) → places′ ≡ set places v (o .word k v) → Peaks heap′ places′ → r ≡ held (set places v (o .word k v)) → Bag o heap′ places′ (set keys v k) r
+    pushed-bag heap′ places′ r e S many =
         subst (λ (l : List ℕ). Bag o heap′ l (set keys v k) r) (sym e)
         (record {
-          same = lh ∙ B .same ∙ sym long;
           long = length-set keys v k ∙ B .long ∙ sym long;
           many = many;
           word = λ u h. each u h (ℕ-discrete u v) .0;
           okay = λ u h. each u h (ℕ-discrete u v) .1;
-          shape = subst (o .shape heap′) e S;
+          shape = subst (Peaks heap′) e S;
         })
       where
         long : length (set places v (o .word k v)) ≡ length places

@@ -1,8 +1,7 @@
 pub mod Order
 pub mod Content
 pub mod Keys
-pub mod Tree
-pub mod Names
+pub mod Peaks
 pub mod Ints
 pub mod Floats
 pub mod Bag

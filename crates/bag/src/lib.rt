@@ -2,5 +2,4 @@
 // What the two share is proved once, over the order of keys.
 pub mod floats;
 pub mod ints;
-mod names;
-mod tree;
+mod peaks;

@@ -13,7 +13,6 @@ use Rattle.clean.specs.None.{noneF64, noneU32}
 use Rattle.clean.proofs.Filled.{filled-length, filled-rest, settle}
 use Rattle.float.specs.declared.Cutoff.{Cutoff}
 use Rattle.rows.specs.Rows.{Lists}
-use Rattle.bag.proofs.Empty.{zeros-named}
 use Rattle.turns.specs.Memory.{Memory, memoryOf, Fresh}
 use Rattle.turns.specs.Searched.{Searched}
 use Rattle.dijkstra_path.specs.Search.{kind64}
@@ -78,7 +77,7 @@ module _ {m : ℕ} {M : Memory Float} (w : Roomy m M) {dist : List Float} {preds
   -- the parts are ready for a search
   pub part-fresh : (k : Cutoff) → m ≤ 1024 → Fresh (kind64 k) m (memoryOf (take m dist) (take m preds) (take m heap) (take m places) (take m (M .keys)))
   part-fresh k few = record {
-    shape = zeros-named m few;
+    few = few;
     dist = ap (take m) dist-is ∙ filled-part m noneF64 (M .dist);
     preds = ap (take m) preds-is ∙ filled-part m noneU32 (M .preds);
     heap = ap (take m) heap-is ∙ filled-part m 0 (M .heap);

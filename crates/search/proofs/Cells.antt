@@ -20,7 +20,7 @@ use Rattle.clean.specs.None.{noneI64, noneU32}
 use Rattle.bag.specs.Ints.{ints, Near}
 use Rattle.bag.specs.Bag.{NotAbove}
 use Rattle.bag.proofs.Content.{content-long}
-use Rattle.bag.proofs.Empty.{zeros-worded, cleared-bag, cleared-content}
+use Rattle.bag.proofs.Empty.{cleared-bag, cleared-content}
 use Rattle.bag.specs.Order.{pick}
 use Rattle.pending.specs.Setting.{upd, End}
 use Rattle.pending.specs.Literal.{better}
@@ -193,7 +193,7 @@ getD-same (suc m) x (suc v) = getD-same m x v
 module _ {m : ℕ} {M : Memory} (f : Fresh m M) where
   -- an empty bag
   pub empty-bag : BagOf M 0
-  empty-bag = cleared-bag ints (M .heap) (M .places) (M .keys) m (zeros-worded m (f .few)) (f .heap) (f .places) (f .keys)
+  empty-bag = cleared-bag ints (M .heap) (M .places) (M .keys) m (f .few) (f .heap) (f .places) (f .keys)
 
   -- nothing in it
   pub empty-content : (v : ℕ) → getD (pendingIn M) v none ≡ none

@@ -161,7 +161,7 @@ pub lengths : {m : ℕ} {h : List ℤ} {M M₀ : Memory} {n : ℕ} → Good m h 
 lengths {m} g f = record {
   dist = g .longD ∙ sym (ap length (f .dist) ∙ length-replicate m noneI64);
   preds = g .longP ∙ sym (ap length (f .preds) ∙ length-replicate m noneU32);
-  heap = g .bag .same ∙ g .longB ∙ sym (ap length (f .heap) ∙ length-replicate m 0);
+  heap = g .bag .shape .same ∙ g .longB ∙ sym (ap length (f .heap) ∙ length-replicate m 0);
   places = g .longB ∙ sym (ap length (f .places) ∙ length-replicate m 0);
   keys = g .bag .long ∙ g .longB ∙ sym (f .keys);
 }

@@ -153,7 +153,7 @@ module _ {K C : Type 0} {Y : Kind K C} {ok : K → Type 0} (W : Lawful Y ok) {m 
 module _ {K C : Type 0} {Y : Kind K C} {m : ℕ} {M : Memory K} (f : Fresh Y m M) where
   -- an empty bag
   pub empty-bag : Bag (Y .order) (M .heap) (M .places) (M .keys) 0
-  empty-bag = cleared-bag (Y .order) (M .heap) (M .places) (M .keys) m (f .shape) (f .heap) (f .places) (f .keys)
+  empty-bag = cleared-bag (Y .order) (M .heap) (M .places) (M .keys) m (f .few) (f .heap) (f .places) (f .keys)
 
   -- nothing in it
   pub empty-content : (v : ℕ) → getD (contentOf (M .places) (M .keys)) v none ≡ none
@@ -196,7 +196,7 @@ pub same-long : {K C : Type 0} {Y : Kind K C} {m : ℕ} {M M′ : Memory K} {n n
 same-long g h = record {
   dist = g .longD ∙ sym (h .longD);
   preds = g .longP ∙ sym (h .longP);
-  heap = g .bag .same ∙ g .longB ∙ sym (h .bag .same ∙ h .longB);
+  heap = g .bag .shape .same ∙ g .longB ∙ sym (h .bag .shape .same ∙ h .longB);
   places = g .longB ∙ sym (h .longB);
   keys = g .bag .long ∙ g .longB ∙ sym (h .bag .long ∙ h .longB);
 }

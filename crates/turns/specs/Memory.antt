@@ -4,7 +4,7 @@ use mathlib.Core.Path.{_≡_}
 use mathlib.Core.Bool.{Bool, true, false}
 use mathlib.Core.List.{List}
 use mathlib.Core.Option.{Option, none, some}
-use Prim.Native.Nat.{ℕ}
+use Prim.Native.Nat.{ℕ, _≤_}
 use lib.Dec.{ltb}
 use lib.ListN.{length, getD, replicate}
 use Rattle.clean.specs.None.{noneU32, shown}
@@ -57,7 +57,7 @@ module _ {K C : Type 0} (Y : Kind K C) where
 
   -- the lists before a search: nothing has a distance, nothing is pending
   pub record Fresh (m : ℕ) (M : Memory K) : Type 0 where
-    pub shape : Y .order .shape (replicate m 0) (replicate m 0)
+    pub few : m ≤ 1024
     pub dist : M .dist ≡ replicate m (Y .blank)
     pub preds : M .preds ≡ replicate m noneU32
     pub heap : M .heap ≡ replicate m 0

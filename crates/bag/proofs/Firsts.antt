@@ -1,0 +1,187 @@
+-- The first of the largest words. The first block that has the largest word has in it the first index that has it; so the
+-- way goes from the largest of 64 to the largest of 8 to the word, each time to the first. Assumes nothing.
+use mathlib.Core.Path.{_≡_, refl, sym, ap, subst, _∙_}
+use mathlib.Core.Bool.{Bool, true, false}
+use mathlib.Core.List.{List}
+use Prim.Native.Nat.{ℕ, zero, suc, _+_, _-_, _*_, _/_, _≤_, _<_, max, min}
+use native.Mathlib.Omega.{arith}
+use native.Mathlib.Decide.{ℕ-discrete}
+use lib.Dec.{ltb, eqb}
+use lib.ListN.{getD, length, List·getD-eq-default}
+use borrow.Author.Tests.{ltb-true, ltb-false, eqb-true, eqb-false}
+use Rattle.bag.specs.Order.{pick}
+use Rattle.bag.specs.Peaks.{peak, span, Peaks, FirstOf, firstFrom}
+use Rattle.bag.proofs.Largest.{peak-above, peak-below, Has, peak-has, group-end, group-two, of-low, of-high, top-is}
+
+-- ---- looked for entry by entry
+-- one entry more
+pub first-more : (l : List ℕ) (i n w : ℕ) → firstFrom l i (suc n) w ≡ pick (eqb (getD l i 0) w) i (firstFrom l (i + 1) n w)
+unfolding firstFrom
+first-more l i n w = refl
+
+pub first-step : (l : List ℕ) (i n w j x y : ℕ) → j ≡ i + 1 → x ≡ firstFrom l j n w → y ≡ pick (eqb (getD l i 0) w) i x → y ≡ firstFrom l i (suc n) w
+first-step l i n w j x y e f g = g ∙ ap (pick (eqb (getD l i 0) w) i) (f ∙ ap (λ (k : ℕ). firstFrom l k n w) e) ∙ sym (first-more l i n w)
+
+pub first-none : (l : List ℕ) (i w : ℕ) → firstFrom l i 0 w ≡ i
+unfolding firstFrom
+first-none l i w = refl
+
+-- the last need not be looked at, if one of them is w
+pub first-is : (l : List ℕ) (i n w : ℕ) → Has l i (suc n) w → FirstOf l i (suc n) w (firstFrom l i n w)
+first-is l i zero w h =
+    let e : h .at ≡ i = omega (arith, h .from, h .to) in
+    subst (FirstOf l i 1 w) (sym (first-none l i w)) (record { from = omega arith; to = omega arith; is = subst (λ (x : ℕ). getD l x 0 ≡ w) e (h .is); no-sooner = λ k a b z. omega (arith, a, b) })
+first-is l i (suc n) w h = go (eqb (getD l i 0) w) refl (λ g. first-is l (i + 1) n w g)
+  where
+    go : (t : Bool) → eqb (getD l i 0) w ≡ t → (Has l (i + 1) (suc n) w → FirstOf l (i + 1) (suc n) w (firstFrom l (i + 1) n w)) → FirstOf l i (suc (suc n)) w (firstFrom l i (suc n) w)
+    go true e f =
+        let here : firstFrom l i (suc n) w ≡ i = first-more l i n w ∙ ap (λ (t : Bool). pick t i (firstFrom l (i + 1) n w)) e in
+        subst (FirstOf l i (suc (suc n)) w) (sym here) (record { from = omega arith; to = omega arith; is = eqb-true (getD l i 0) w e; no-sooner = λ k a b z. omega (arith, a, b) })
+    go false e f =
+        let other = eqb-false (getD l i 0) w e in
+        let later : h .at ≡ i → ⊥ = λ z. other (subst (λ (x : ℕ). getD l x 0 ≡ w) z (h .is)) in
+        let F = f (record { at = h .at; from = omega (arith, h .from, later); to = omega (arith, h .to); is = h .is }) in
+        let on : firstFrom l i (suc n) w ≡ firstFrom l (i + 1) n w = first-more l i n w ∙ ap (λ (t : Bool). pick t i (firstFrom l (i + 1) n w)) e in
+        subst (FirstOf l i (suc (suc n)) w) (sym on) (record { from = omega (arith, F .from); to = omega (arith, F .to); is = F .is; no-sooner = λ k a b z. sooner F other k a b z (ℕ-discrete k i) })
+      where
+        sooner : FirstOf l (i + 1) (suc n) w (firstFrom l (i + 1) n w) → (getD l i 0 ≡ w → ⊥) → (k : ℕ) → i ≤ k → k < firstFrom l (i + 1) n w → getD l k 0 ≡ w → Dec (k ≡ i) → ⊥
+        sooner F o k a b z (yes d) = o (subst (λ (x : ℕ). getD l x 0 ≡ w) d z)
+        sooner F o k a b z (no d) = F .no-sooner k (omega (arith, a, d)) b z
+
+-- the largest of eight is among them
+pub first-eight : (l : List ℕ) (i end w : ℕ) → i + 8 ≤ end → w ≡ peak l i (span i end) → 0 < w → FirstOf l i (span i end) w (firstFrom l i 7 w)
+first-eight l i end w p e s =
+    let n : span i end ≡ 8 = omega (arith, p) in
+    subst (λ (x : ℕ). FirstOf l i x w (firstFrom l i 7 w)) (sym n) (first-is l i 7 w (subst (λ (x : ℕ). Has l i x w) n (subst (Has l i (span i end)) (sym e) (peak-has l i (span i end) (subst (λ (x : ℕ). 0 < x) e s)))))
+
+-- w is not among the entries from i to k, and is further on
+pub record Seeking (l : List ℕ) (i end w k : ℕ) : Type 0 where
+  pub from : i ≤ k
+  pub ahead : Has l k (end - k) w
+  pub none : (j : ℕ) → i ≤ j → j < k → getD l j 0 ≡ w → ⊥
+
+pub seek-begin : (l : List ℕ) (i end w : ℕ) → w ≡ peak l i (end - i) → 0 < w → Seeking l i end w i
+seek-begin l i end w e s = record { from = omega arith; ahead = subst (Has l i (end - i)) (sym e) (peak-has l i (end - i) (subst (λ (x : ℕ). 0 < x) e s)); none = λ j a b z. omega (arith, a, b) }
+
+pub seek-inside : (l : List ℕ) (i end w k : ℕ) → Seeking l i end w k → k < end
+seek-inside l i end w k S = omega (arith, S .ahead .from, S .ahead .to)
+
+pub seek-next : (l : List ℕ) (i end w k : ℕ) → Seeking l i end w k → (getD l k 0 ≡ w → ⊥) → Seeking l i end w (k + 1)
+seek-next l i end w k S n = record {
+  from = omega (arith, S .from);
+  ahead = let h = S .ahead in let later : h .at ≡ k → ⊥ = λ z. n (subst (λ (x : ℕ). getD l x 0 ≡ w) z (h .is)) in record { at = h .at; from = omega (arith, h .from, later); to = omega (arith, h .from, h .to, later); is = h .is };
+  none = λ j a b z. go j a b z (ℕ-discrete j k);
+}
+  where
+    go : (j : ℕ) → i ≤ j → j < k + 1 → getD l j 0 ≡ w → Dec (j ≡ k) → ⊥
+    go j a b z (yes d) = n (subst (λ (x : ℕ). getD l x 0 ≡ w) d z)
+    go j a b z (no d) = S .none j a (omega (arith, b, d)) z
+
+pub seek-end : (l : List ℕ) (i end w k : ℕ) → Seeking l i end w k → getD l k 0 ≡ w → FirstOf l i (end - i) w k
+seek-end l i end w k S e = record { from = S .from; to = omega (arith, S .from, seek-inside l i end w k S); is = e; no-sooner = S .none }
+
+-- a way that is chosen
+pub half-near : (t : Bool) (i : ℕ) → pick t (i + 8) i ≤ i + 8
+half-near true i = omega arith
+half-near false i = omega arith
+
+-- ---- from block to block
+module _ (heap places : List ℕ) (S : Peaks heap places) (w : ℕ) (most : w ≡ peak places 0 (length places)) (some : 0 < w) where
+  abbrev base : ℕ
+  base = length places / 2
+
+  abbrev blocks : ℕ
+  blocks = (length places + 63) / 64
+
+  abbrev end : ℕ
+  end = base + blocks
+
+  -- no word is larger
+  under : (u : ℕ) → u < length places → getD places u 0 ≤ w
+  under u p = subst (λ (x : ℕ). getD places u 0 ≤ x) (sym most) (peak-above places 0 (length places) u (omega arith) (omega (arith, p)))
+
+  peak-under : (i n : ℕ) → peak places i n ≤ w
+  peak-under i n = peak-below places i n w (λ k a b. go k (ltb k (length places)) refl)
+    where
+      go : (k : ℕ) (t : Bool) → ltb k (length places) ≡ t → getD places k 0 ≤ w
+      go k true e = under k (ltb-true k (length places) e)
+      go k false e = omega (arith, List·getD-eq-default places 0 {n = k} (ltb-false k (length places) e))
+
+  -- the largest of the first eight blocks of 64, and of the others
+  abbrev front : ℕ
+  front = peak heap base (span base end)
+
+  abbrev back : ℕ
+  back = peak heap (base + 8) (span (base + 8) end)
+
+  either : max front back ≡ w
+  either = top-is heap places S ∙ sym most
+
+  -- w is looked for where it is
+  pub half-right : w ≡ peak heap (pick (ltb front w) (base + 8) base) (span (pick (ltb front w) (base + 8) base) end)
+  half-right = go (ltb front w) refl
+    where
+      go : (t : Bool) → ltb front w ≡ t → w ≡ peak heap (pick t (base + 8) base) (span (pick t (base + 8) base) end)
+      go true e = omega (arith, ltb-true front w e, either)
+      go false e = omega (arith, ltb-false front w e, either)
+
+  -- and there is the first of all
+  pub half-first : (r : ℕ) → FirstOf heap (pick (ltb front w) (base + 8) base) (span (pick (ltb front w) (base + 8) base) end) w r → FirstOf heap base blocks w r
+  half-first r = go (ltb front w) refl
+    where
+      go : (t : Bool) → ltb front w ≡ t → FirstOf heap (pick t (base + 8) base) (span (pick t (base + 8) base) end) w r → FirstOf heap base blocks w r
+      go true e F =
+          let less = ltb-true front w e in
+          let full : span base end ≡ 8 = omega (arith, F .from, F .to) in
+          record {
+            from = omega (arith, F .from);
+            to = omega (arith, F .from, F .to);
+            is = F .is;
+            no-sooner = λ k a b z. sooner full less F k a b z (ltb k (base + 8)) refl;
+          }
+        where
+          sooner : span base end ≡ 8 → front < w → FirstOf heap (base + 8) (span (base + 8) end) w r → (k : ℕ) → base ≤ k → k < r → getD heap k 0 ≡ w → (t : Bool) → ltb k (base + 8) ≡ t → ⊥
+          sooner full less F k a b z true g = let h = ltb-true k (base + 8) g in omega (arith, less, z, peak-above heap base (span base end) k a (omega (arith, h, full)))
+          sooner full less F k a b z false g = F .no-sooner k (ltb-false k (base + 8) g) b z
+      go false e F = record { from = F .from; to = omega (arith, F .to); is = F .is; no-sooner = F .no-sooner }
+
+  -- in the first block of 64 that has w
+  module _ (h : ℕ) (H : FirstOf heap base blocks w h) where
+    -- it is its b-th
+    abbrev b : ℕ
+    b = h - base
+
+    b-in : b * 64 < length places
+    b-in = omega (arith, H .from, H .to)
+
+    pub high-right : w ≡ peak heap (b * 8) (span (b * 8) ((length places + 7) / 8))
+    high-right =
+        let e : base + b ≡ h = omega (arith, H .from) in
+        sym (H .is) ∙ ap (λ (x : ℕ). getD heap x 0) (sym e) ∙ S .high .holds b b-in ∙ sym (of-low heap places b (S .low) b-in)
+
+    -- the first block of 8
+    module _ (c : ℕ) (C : FirstOf heap (b * 8) (span (b * 8) ((length places + 7) / 8)) w c) where
+      c-in : c * 8 < length places
+      c-in = omega (arith, C .from, C .to)
+
+      pub low-right : w ≡ peak places (c * 8) (span (c * 8) (length places))
+      low-right = sym (C .is) ∙ S .low .holds c c-in ∙ sym (group-end places (c * 8))
+
+      -- and in it the first index
+      pub first-all : (r : ℕ) → FirstOf places (c * 8) (span (c * 8) (length places)) w r → FirstOf places 0 (length places) w r
+      first-all r R = record { from = omega arith; to = omega (arith, R .from, R .to); is = R .is; no-sooner = λ u p q z. none u (omega (arith, q, R .from, R .to)) q z }
+        where
+          -- a block that holds w has it as its largest
+          has-8 : (u : ℕ) → u < length places → getD places u 0 ≡ w → getD heap (u / 8) 0 ≡ w
+          has-8 u p z = omega (arith, S .low .holds (u / 8) (omega (arith, p)), z, peak-above places (u / 8 * 8) 8 u (omega arith) (omega arith), peak-under (u / 8 * 8) 8)
+
+          has-64 : (u : ℕ) → u < length places → getD places u 0 ≡ w → getD heap (base + u / 64) 0 ≡ w
+          has-64 u p z = omega (arith, S .high .holds (u / 64) (omega (arith, p)), z, peak-above places (u / 64 * 64) 64 u (omega arith) (omega arith), peak-under (u / 64 * 64) 64)
+
+          none : (u : ℕ) → u < length places → u < r → getD places u 0 ≡ w → ⊥
+          none u p q z = go (ltb u (c * 8)) refl (ltb (u / 8) (b * 8)) refl
+            where
+              go : (s : Bool) → ltb u (c * 8) ≡ s → (t : Bool) → ltb (u / 8) (b * 8) ≡ t → ⊥
+              go false e t f = R .no-sooner u (ltb-false u (c * 8) e) q z
+              go true e false f = C .no-sooner (u / 8) (ltb-false (u / 8) (b * 8) f) (omega (arith, ltb-true u (c * 8) e)) (has-8 u p z)
+              go true e true f = H .no-sooner (base + u / 64) (omega arith) (omega (arith, H .from, ltb-true (u / 8) (b * 8) f)) (has-64 u p z)

@@ -1,0 +1,339 @@
+-- The largest words. Two facts carry the whole: the largest of a block of entries knows a store to one of them, and the
+-- largest of a block's parts is the largest of the block. So a store to a place unsettles one entry of each level, which
+-- is set right from below; and the first block with the largest word has in it the first entry with that word.
+-- Assumes nothing.
+use mathlib.Core.Path.{_≡_, refl, sym, ap, subst, _∙_}
+use mathlib.Core.Bool.{Bool, true, false}
+use mathlib.Core.List.{List}
+use mathlib.Core.Logic.{_⊎_, inl, inr}
+use Prim.Native.Nat.{ℕ, zero, suc, _+_, _-_, _*_, _/_, _≤_, _<_, max, min}
+use native.Mathlib.Omega.{arith}
+use native.Mathlib.Decide.{ℕ-discrete}
+use native.Mathlib.Nat.{add-mul, one-mul, suc-mul, zero-mul}
+use lib.Dec.{ltb, eqb}
+use lib.ListN.{getD, length, set, length-set, List·getD-eq-default}
+use lib.Seq.{getD-set-same, getD-set-other}
+use borrow.Author.Tests.{ltb-true, ltb-false, eqb-true, eqb-false}
+use Rattle.bag.specs.Order.{pick}
+use Rattle.bag.specs.Peaks.{peak, span, Level, Peaks, FirstOf, firstFrom}
+
+-- ---- the largest of a few entries
+-- of none, and of one more
+pub peak-none : (l : List ℕ) (i : ℕ) → peak l i 0 ≡ 0
+unfolding peak
+peak-none l i = refl
+
+pub peak-more : (l : List ℕ) (i n : ℕ) → peak l i (suc n) ≡ max (getD l i 0) (peak l (i + 1) n)
+unfolding peak
+peak-more l i n = refl
+
+-- of one
+pub peak-one : (l : List ℕ) (i : ℕ) → peak l i 1 ≡ getD l i 0
+peak-one l i = omega (arith, peak-more l i 0, peak-none l (i + 1))
+
+-- of two parts
+pub peak-parts : (l : List ℕ) (i a b : ℕ) → peak l i (a + b) ≡ max (peak l i a) (peak l (i + a) b)
+peak-parts l i zero b =
+    let x : 0 + b ≡ b = omega arith in
+    let y : i + 0 ≡ i = omega arith in
+    rw (x, y) (omega (arith, peak-none l i))
+peak-parts l i (suc a) b =
+    let x : suc a + b ≡ suc (a + b) = omega arith in
+    let y : i + suc a ≡ i + 1 + a = omega arith in
+    rw (x, y) (omega (arith, peak-more l i (a + b), peak-more l i a, peak-parts l (i + 1) a b))
+
+-- two entries, and two halves
+pub peak-two : (l : List ℕ) (i : ℕ) → max (getD l i 0) (getD l (i + 1) 0) ≡ peak l i 2
+peak-two l i = sym (peak-more l i 1 ∙ ap (max (getD l i 0)) (peak-one l (i + 1)))
+
+pub peak-halves : (l : List ℕ) (i a : ℕ) → max (peak l i a) (peak l (i + a) a) ≡ peak l i (a + a)
+peak-halves l i a = sym (peak-parts l i a a)
+
+-- the entries up to k, and k
+pub peak-next : (l : List ℕ) (i k : ℕ) → i ≤ k → max (peak l i (k - i)) (getD l k 0) ≡ peak l i (k + 1 - i)
+peak-next l i k p =
+    let e : i + (k - i) ≡ k = omega (arith, p) in
+    let n : k + 1 - i ≡ k - i + 1 = omega (arith, p) in
+    sym (ap (peak l i) n ∙ peak-parts l i (k - i) 1 ∙ ap (max (peak l i (k - i))) (peak-one l (i + (k - i)) ∙ ap (λ (x : ℕ). getD l x 0) e))
+
+-- no entry of them is larger
+pub peak-above : (l : List ℕ) (i n k : ℕ) → i ≤ k → k < i + n → getD l k 0 ≤ peak l i n
+peak-above l i zero k a b = absurd (omega (arith, a, b))
+peak-above l i (suc n) k a b = go (ℕ-discrete i k) (λ p. peak-above l (i + 1) n k p (omega (arith, b)))
+  where
+    go : Dec (i ≡ k) → (i + 1 ≤ k → getD l k 0 ≤ peak l (i + 1) n) → getD l k 0 ≤ peak l i (suc n)
+    go (yes e) f = omega (arith, peak-more l i n, ap (λ (x : ℕ). getD l x 0) e)
+    go (no e) f = omega (arith, peak-more l i n, f (omega (arith, a, e)))
+
+-- what none of them passes, the largest does not pass
+pub peak-below : (l : List ℕ) (i n w : ℕ) → ((k : ℕ) → i ≤ k → k < i + n → getD l k 0 ≤ w) → peak l i n ≤ w
+peak-below l i zero w f = omega (arith, peak-none l i)
+peak-below l i (suc n) w f = omega (arith, peak-more l i n, f i (omega arith) (omega arith), peak-below l (i + 1) n w (λ k a b. f k (omega (arith, a)) (omega (arith, b))))
+
+-- where it is not 0, it is one of them
+pub record Has (l : List ℕ) (i n w : ℕ) : Type 0 where
+  pub at : ℕ
+  pub from : i ≤ at
+  pub to : at < i + n
+  pub is : getD l at 0 ≡ w
+
+pub peak-has : (l : List ℕ) (i n : ℕ) → 0 < peak l i n → Has l i n (peak l i n)
+peak-has l i zero s = absurd (omega (arith, peak-none l i, s))
+peak-has l i (suc n) s = go (ltb (getD l i 0) (peak l (i + 1) n)) refl (λ p. peak-has l (i + 1) n p)
+  where
+    go : (t : Bool) → ltb (getD l i 0) (peak l (i + 1) n) ≡ t → (0 < peak l (i + 1) n → Has l (i + 1) n (peak l (i + 1) n)) → Has l i (suc n) (peak l i (suc n))
+    go true e f =
+        let p = ltb-true (getD l i 0) (peak l (i + 1) n) e in
+        let h = f (omega (arith, p)) in
+        record { at = h .at; from = omega (arith, h .from); to = omega (arith, h .to); is = omega (arith, h .is, p, peak-more l i n) }
+    go false e f = record { at = i; from = omega arith; to = omega arith; is = omega (arith, ltb-false (getD l i 0) (peak l (i + 1) n) e, peak-more l i n) }
+
+-- past the end it is 0
+pub peak-past : (l : List ℕ) (i n : ℕ) → length l ≤ i → peak l i n ≡ 0
+peak-past l i n p =
+    let h = peak-below l i n 0 (λ k a b. omega (arith, List·getD-eq-default l 0 {n = k} (omega (arith, p, a)))) in
+    omega (arith, h)
+
+-- so whatever reaches the end counts the same
+reach : (l : List ℕ) (i a d : ℕ) → length l ≤ i + a → peak l i (a + d) ≡ peak l i a
+reach l i a d p = omega (arith, peak-parts l i a d, peak-past l (i + a) d p)
+
+pub peak-reach : (l : List ℕ) (i a b : ℕ) → length l ≤ i + a → length l ≤ i + b → peak l i a ≡ peak l i b
+peak-reach l i a b p q = go (ltb a b) refl
+  where
+    go : (t : Bool) → ltb a b ≡ t → peak l i a ≡ peak l i b
+    go true e = let h = ltb-true a b e in sym (reach l i a (b - a) p) ∙ ap (peak l i) (omega (arith, h))
+    go false e = let h = ltb-false a b e in sym (ap (peak l i) (omega (arith, h))) ∙ reach l i b (a - b) q
+
+-- ---- one entry is stored to
+-- outside
+pub peak-out : (l : List ℕ) (v w i n : ℕ) → (v < i) ⊎ (i + n ≤ v) → peak (set l v w) i n ≡ peak l i n
+peak-out l v w i zero o = peak-none (set l v w) i ∙ sym (peak-none l i)
+peak-out l v w i (suc n) o =
+    let e : getD (set l v w) i 0 ≡ getD l i 0 = getD-set-other l v i w 0 (away o) in
+    omega (arith, peak-more (set l v w) i n, peak-more l i n, e, peak-out l v w (i + 1) n (rest o))
+  where
+    away : (v < i) ⊎ (i + suc n ≤ v) → i ≡ v → ⊥
+    away (inl a) e = omega (arith, a, e)
+    away (inr a) e = omega (arith, a, e)
+
+    rest : (v < i) ⊎ (i + suc n ≤ v) → (v < i + 1) ⊎ (i + 1 + n ≤ v)
+    rest (inl a) = inl (omega (arith, a))
+    rest (inr a) = inr (omega (arith, a))
+
+-- inside, where the entry grows
+pub peak-grown : (l : List ℕ) (v w i n : ℕ) → v < length l → i ≤ v → v < i + n → getD l v 0 ≤ w → peak (set l v w) i n ≡ max (peak l i n) w
+peak-grown l v w i n in-l a b g = omega (arith, most, peak-below l i n (peak (set l v w) i n) each, subst (λ (x : ℕ). x ≤ peak (set l v w) i n) here (peak-above (set l v w) i n v a b))
+  where
+    here : getD (set l v w) v 0 ≡ w
+    here = getD-set-same l v w 0 in-l
+
+    most : peak (set l v w) i n ≤ max (peak l i n) w
+    most = peak-below (set l v w) i n (max (peak l i n) w) (λ k p q. go k p q (ℕ-discrete k v))
+      where
+        go : (k : ℕ) → i ≤ k → k < i + n → Dec (k ≡ v) → getD (set l v w) k 0 ≤ max (peak l i n) w
+        go k p q (yes e) = omega (arith, ap (λ (x : ℕ). getD (set l v w) x 0) e, here)
+        go k p q (no e) = omega (arith, getD-set-other l v k w 0 e, peak-above l i n k p q)
+
+    each : (k : ℕ) → i ≤ k → k < i + n → getD l k 0 ≤ peak (set l v w) i n
+    each k p q = go (ℕ-discrete k v)
+      where
+        go : Dec (k ≡ v) → getD l k 0 ≤ peak (set l v w) i n
+        go (yes e) = omega (arith, ap (λ (x : ℕ). getD l x 0) e, g, here, peak-above (set l v w) i n v a b)
+        go (no e) = omega (arith, getD-set-other l v k w 0 e, peak-above (set l v w) i n k p q)
+
+-- ---- groups of eight
+-- up to the end of the list a group counts as eight
+pub group-end : (l : List ℕ) (i : ℕ) → peak l i (span i (length l)) ≡ peak l i 8
+group-end l i = go (ltb (length l) (i + 8)) refl
+  where
+    go : (t : Bool) → ltb (length l) (i + 8) ≡ t → peak l i (span i (length l)) ≡ peak l i 8
+    go true e = let h = ltb-true (length l) (i + 8) e in peak-reach l i (span i (length l)) 8 (omega (arith, h)) (omega (arith, h))
+    go false e = ap (peak l i) (omega (arith, ltb-false (length l) (i + 8) e))
+
+-- two groups side by side
+pub group-two : (l : List ℕ) (i end : ℕ) → end ≤ i + 16 → max (peak l i (span i end)) (peak l (i + 8) (span (i + 8) end)) ≡ peak l i (end - i)
+group-two l i end p = go (ltb end (i + 8)) refl
+  where
+    go : (t : Bool) → ltb end (i + 8) ≡ t → max (peak l i (span i end)) (peak l (i + 8) (span (i + 8) end)) ≡ peak l i (end - i)
+    go true e =
+        let h = ltb-true end (i + 8) e in
+        let x : span i end ≡ end - i = omega (arith, h) in
+        let y : span (i + 8) end ≡ 0 = omega (arith, h) in
+        rw (x, y) (omega (arith, peak-none l (i + 8)))
+    go false e =
+        let h = ltb-false end (i + 8) e in
+        let x : span i end ≡ 8 = omega (arith, h) in
+        let y : span (i + 8) end ≡ end - i - 8 = omega (arith, h, p) in
+        let z : end - i ≡ 8 + (end - i - 8) = omega (arith, h) in
+        rw (x, y) (sym (ap (peak l i) z ∙ peak-parts l i 8 (end - i - 8)))
+
+-- ---- the largest of the largest
+-- of n parts of s entries, whose largest stand side by side
+pub peak-peaks : (heap l : List ℕ) (s i j n : ℕ) → ((k : ℕ) → k < n → getD heap (i + k) 0 ≡ peak l ((j + k) * s) s) → peak heap i n ≡ peak l (j * s) (n * s)
+peak-peaks heap l s i j zero f =
+    let z : zero * s ≡ 0 = zero-mul s in
+    rw z (peak-none heap i ∙ sym (peak-none l (j * s)))
+peak-peaks heap l s i j (suc n) f =
+    let here : getD heap i 0 ≡ peak l (j * s) s = shift i j (omega arith) (omega arith) (f 0 (omega arith)) in
+    let rest = peak-peaks heap l s (i + 1) (j + 1) n (λ k p. shift (i + 1 + k) (j + 1 + k) (omega arith) (omega arith) (f (suc k) (omega (arith, p)))) in
+    let next : (j + 1) * s ≡ j * s + s = add-mul j 1 s ∙ ap (λ (x : ℕ). j * s + x) (one-mul s) in
+    let many : suc n * s ≡ s + n * s = omega (arith, suc-mul n s) in
+    let tail = rest ∙ ap (λ (x : ℕ). peak l x (n * s)) next in
+    rw many (omega (arith, peak-more heap i n, here, tail, peak-parts l (j * s) s (n * s)))
+  where
+    shift : {a b : ℕ} (x y : ℕ) → a ≡ x → b ≡ y → getD heap a 0 ≡ peak l (b * s) s → getD heap x 0 ≡ peak l (y * s) s
+    shift x y p q e = sym (ap (λ (z : ℕ). getD heap z 0) p) ∙ e ∙ ap (λ (z : ℕ). peak l (z * s) s) q
+
+-- ---- a level: the blocks of one size
+-- in which block a place stands: q is v's, and every other is away from v
+pub record Block (size v q : ℕ) : Type 0 where
+  pub from : q * size ≤ v
+  pub to : v < q * size + size
+  pub away : (j : ℕ) → (j ≡ q → ⊥) → (v < j * size) ⊎ (j * size + size ≤ v)
+
+pub block-8 : (v : ℕ) → Block 8 v (v / 8)
+block-8 v = record { from = omega arith; to = omega arith; away = λ j n. go j n (ltb v (j * 8)) refl }
+  where
+    go : (j : ℕ) → (j ≡ v / 8 → ⊥) → (t : Bool) → ltb v (j * 8) ≡ t → (v < j * 8) ⊎ (j * 8 + 8 ≤ v)
+    go j n true e = inl (ltb-true v (j * 8) e)
+    go j n false e = let h = ltb-false v (j * 8) e in inr (omega (arith, h, n))
+
+pub block-64 : (v : ℕ) → Block 64 v (v / 64)
+block-64 v = record { from = omega arith; to = omega arith; away = λ j n. go j n (ltb v (j * 64)) refl }
+  where
+    go : (j : ℕ) → (j ≡ v / 64 → ⊥) → (t : Bool) → ltb v (j * 64) ≡ t → (v < j * 64) ⊎ (j * 64 + 64 ≤ v)
+    go j n true e = inl (ltb-true v (j * 64) e)
+    go j n false e = let h = ltb-false v (j * 64) e in inr (omega (arith, h, n))
+
+-- a level with one entry that may be wrong, that of block q
+pub record Unsettled (heap places : List ℕ) (at : ℕ → ℕ) (size q : ℕ) : Type 0 where
+  pub holds : (j : ℕ) → j * size < length places → (j ≡ q → ⊥) → getD heap (at j) 0 ≡ peak places (j * size) size
+
+-- a store to a place unsettles its block alone
+pub level-moved : (heap places : List ℕ) (at : ℕ → ℕ) (size v q w : ℕ) → Level heap places at size → Block size v q → Unsettled heap (set places v w) at size q
+level-moved heap places at size v q w L B = record { holds = λ j p n. L .holds j (subst (λ (x : ℕ). j * size < x) (length-set places v w) p) ∙ sym (peak-out places v w (j * size) size (B .away j n)) }
+
+-- the right value settles it
+pub level-settled : (heap places : List ℕ) (at : ℕ → ℕ) (size q y : ℕ) → Unsettled heap places at size q → ((j : ℕ) → at j ≡ at q → j ≡ q) → at q < length heap → y ≡ peak places (q * size) size → Level (set heap (at q) y) places at size
+level-settled heap places at size q y U one in-heap e = record { holds = λ j p. go j p (ℕ-discrete j q) }
+  where
+    go : (j : ℕ) → j * size < length places → Dec (j ≡ q) → getD (set heap (at q) y) (at j) 0 ≡ peak places (j * size) size
+    go j p (yes d) = subst (λ (x : ℕ). getD (set heap (at q) y) (at x) 0 ≡ peak places (x * size) size) (sym d) (getD-set-same heap (at q) y 0 in-heap ∙ e)
+    go j p (no d) = getD-set-other heap (at q) (at j) y 0 (λ z. d (one j z)) ∙ U .holds j p d
+
+-- a store elsewhere leaves it as it is
+pub unsettled-beside : (heap places : List ℕ) (at : ℕ → ℕ) (size q c y : ℕ) → Unsettled heap places at size q → ((j : ℕ) → j * size < length places → (j ≡ q → ⊥) → at j ≡ c → ⊥) → Unsettled (set heap c y) places at size q
+unsettled-beside heap places at size q c y U away = record { holds = λ j p n. getD-set-other heap c (at j) y 0 (away j p n) ∙ U .holds j p n }
+
+-- and so does one that stores what stands there
+pub level-beside : (heap places : List ℕ) (at : ℕ → ℕ) (size c y : ℕ) → Level heap places at size → c < length heap → ((j : ℕ) → j * size < length places → at j ≡ c → y ≡ peak places (j * size) size) → Level (set heap c y) places at size
+level-beside heap places at size c y L in-heap right = record { holds = λ j p. go j p (ℕ-discrete (at j) c) }
+  where
+    go : (j : ℕ) → j * size < length places → Dec (at j ≡ c) → getD (set heap c y) (at j) 0 ≡ peak places (j * size) size
+    go j p (yes d) = subst (λ (x : ℕ). getD (set heap c y) x 0 ≡ peak places (j * size) size) (sym d) (getD-set-same heap c y 0 in-heap ∙ right j p d)
+    go j p (no d) = getD-set-other heap c (at j) y 0 d ∙ L .holds j p
+
+-- where the two levels stand
+abbrev front : ℕ → ℕ
+front j = j
+
+abbrev middle : ℕ → ℕ → ℕ
+middle m j = m / 2 + j
+
+-- ---- the entries of one level give those of the next
+-- eight of the largest of 8 give one of 64
+pub of-low : (heap places : List ℕ) (q : ℕ) → Level heap places front 8 → q * 64 < length places → peak heap (q * 8) (span (q * 8) ((length places + 7) / 8)) ≡ peak places (q * 64) 64
+of-low heap places q L p =
+    let n = span (q * 8) ((length places + 7) / 8) in
+    let e : q * 8 * 8 ≡ q * 64 = omega arith in
+    let parts = peak-peaks heap places 8 (q * 8) (q * 8) n (λ k a. L .holds (q * 8 + k) (omega (arith, a))) in
+    parts ∙ ap (λ (x : ℕ). peak places x (n * 8)) e ∙ go (ltb (length places) (q * 64 + 64)) refl
+  where
+    go : (t : Bool) → ltb (length places) (q * 64 + 64) ≡ t → peak places (q * 64) (span (q * 8) ((length places + 7) / 8) * 8) ≡ peak places (q * 64) 64
+    go true e = let h = ltb-true (length places) (q * 64 + 64) e in peak-reach places (q * 64) (span (q * 8) ((length places + 7) / 8) * 8) 64 (omega (arith, h, p)) (omega (arith, h))
+    go false e = let h = ltb-false (length places) (q * 64 + 64) e in ap (peak places (q * 64)) (omega (arith, h))
+
+-- those of 64 together give the largest of all
+pub of-high : (heap places : List ℕ) → Level heap places (middle (length places)) 64 → peak heap (length places / 2) ((length places + 63) / 64) ≡ peak places 0 (length places)
+of-high heap places L =
+    let m = length places in
+    let n = (m + 63) / 64 in
+    let parts = peak-peaks heap places 64 (m / 2) 0 n (λ k a. let e : 0 + k ≡ k = omega arith in subst (λ (x : ℕ). getD heap (m / 2 + k) 0 ≡ peak places (x * 64) 64) (sym e) (L .holds k (omega (arith, a)))) in
+    let z : 0 * 64 ≡ 0 = omega arith in
+    parts ∙ ap (λ (x : ℕ). peak places x (n * 64)) z ∙ peak-reach places 0 (n * 64) m (omega arith) (omega arith)
+
+-- ---- the word of v is replaced
+module _ (heap places : List ℕ) (v w : ℕ) (S : Peaks heap places) (in-places : v < length places) where
+  long : length (set places v w) ≡ length places
+  long = length-set places v w
+
+  -- the largest of its 8 is set right
+  module _ (x : ℕ) (low-right : x ≡ peak (set places v w) (v / 8 * 8) 8) where
+    pub low-settled : Level (set heap (v / 8) x) (set places v w) front 8
+    low-settled = level-settled heap (set places v w) front 8 (v / 8) x (level-moved heap places front 8 v (v / 8) w (S .low) (block-8 v)) (λ j e. e) (omega (arith, S .same, in-places)) low-right
+
+    high-waits : Unsettled (set heap (v / 8) x) (set places v w) (middle (length places)) 64 (v / 64)
+    high-waits = unsettled-beside heap (set places v w) (middle (length places)) 64 (v / 64) (v / 8) x (level-moved heap places (middle (length places)) 64 v (v / 64) w (S .high) (block-64 v)) (λ j p n e. n (omega (arith, p, e, long, in-places)))
+
+    -- and then the largest of its 64
+    pub peaks-settled : (y : ℕ) → y ≡ peak (set places v w) (v / 64 * 64) 64 → Peaks (set (set heap (v / 8) x) (length places / 2 + v / 64) y) (set places v w)
+    peaks-settled y high-right = record {
+      few = omega (arith, long, S .few);
+      same = length-set (set heap (v / 8) x) (length places / 2 + v / 64) y ∙ length-set heap (v / 8) x ∙ S .same ∙ sym long;
+      low = level-beside (set heap (v / 8) x) (set places v w) front 8 (length places / 2 + v / 64) y low-settled inside (λ j p e. alone j p e);
+      high = subst (λ (m : ℕ). Level (set (set heap (v / 8) x) (length places / 2 + v / 64) y) (set places v w) (middle m) 64) (sym long) (level-settled (set heap (v / 8) x) (set places v w) (middle (length places)) 64 (v / 64) y high-waits (λ j e. omega (arith, e)) inside high-right);
+    }
+      where
+        inside : length places / 2 + v / 64 < length (set heap (v / 8) x)
+        inside = omega (arith, length-set heap (v / 8) x, S .same, in-places)
+
+        -- where both stand in one entry, there is one place
+        alone : (j : ℕ) → j * 8 < length (set places v w) → j ≡ length places / 2 + v / 64 → y ≡ peak (set places v w) (j * 8) 8
+        alone j p e =
+            let a : v / 64 * 64 ≡ j * 8 = omega (arith, p, e, long, in-places) in
+            let b : length (set places v w) ≤ 8 = omega (arith, p, e, long, in-places) in
+            high-right ∙ ap (λ (i : ℕ). peak (set places v w) i 64) a ∙ peak-reach (set places v w) (j * 8) 64 8 (omega (arith, b)) (omega (arith, b))
+
+  -- a word that grows: what stands grows with it
+  module _ (grown : getD places v 0 ≤ w) where
+    pub low-grown : max (getD heap (v / 8) 0) w ≡ peak (set places v w) (v / 8 * 8) 8
+    low-grown = ap (λ (x : ℕ). max x w) (S .low .holds (v / 8) (omega (arith, in-places))) ∙ sym (peak-grown places v w (v / 8 * 8) 8 in-places (omega arith) (omega arith) grown)
+
+    pub high-grown : (x : ℕ) → x ≡ max (getD heap (v / 8) 0) w → max (getD (set heap (v / 8) x) (length places / 2 + v / 64) 0) w ≡ peak (set places v w) (v / 64 * 64) 64
+    high-grown x e = go (ℕ-discrete (length places / 2 + v / 64) (v / 8))
+      where
+        whole : peak (set places v w) (v / 64 * 64) 64 ≡ max (peak places (v / 64 * 64) 64) w
+        whole = peak-grown places v w (v / 64 * 64) 64 in-places (omega arith) (omega arith) grown
+
+        stood : getD heap (length places / 2 + v / 64) 0 ≡ peak places (v / 64 * 64) 64
+        stood = S .high .holds (v / 64) (omega (arith, in-places))
+
+        go : Dec (length places / 2 + v / 64 ≡ v / 8) → max (getD (set heap (v / 8) x) (length places / 2 + v / 64) 0) w ≡ peak (set places v w) (v / 64 * 64) 64
+        go (no d) = ap (λ (z : ℕ). max z w) (getD-set-other heap (v / 8) (length places / 2 + v / 64) x 0 d ∙ stood) ∙ sym whole
+        go (yes d) =
+            let a : getD (set heap (v / 8) x) (length places / 2 + v / 64) 0 ≡ x = ap (λ (z : ℕ). getD (set heap (v / 8) x) z 0) d ∙ getD-set-same heap (v / 8) x 0 (omega (arith, S .same, in-places)) in
+            let b : getD heap (v / 8) 0 ≡ peak places (v / 64 * 64) 64 = ap (λ (z : ℕ). getD heap z 0) (sym d) ∙ stood in
+            omega (arith, a, b, e, whole)
+
+-- ---- what the functions leave
+-- after a raise
+pub peaks-raised : (heap places : List ℕ) (v w m : ℕ) (heap₁ heap₂ : List ℕ) → Peaks heap places → v < length places → getD places v 0 ≤ w → m ≡ length places → heap₁ ≡ set heap (v / 8) (max (getD heap (v / 8) 0) w) → heap₂ ≡ set heap₁ (m / 2 + v / 64) (max (getD heap₁ (m / 2 + v / 64) 0) w) → Peaks heap₂ (set places v w)
+peaks-raised heap places v w m heap₁ heap₂ S in-places grown long e₁ e₂ =
+    let x = max (getD heap (v / 8) 0) w in
+    rw (e₂, e₁, long) (peaks-settled heap places v w S in-places x (low-grown heap places v w S in-places grown) (max (getD (set heap (v / 8) x) (length places / 2 + v / 64) 0) w) (high-grown heap places v w S in-places grown x refl))
+
+-- after a clear
+pub peaks-cleared : (heap places : List ℕ) (v w m x y : ℕ) → Peaks heap places → v < length places → m ≡ length places → x ≡ peak (set places v w) (v / 8 * 8) (span (v / 8 * 8) m) → y ≡ peak (set heap (v / 8) x) (v / 64 * 8) (span (v / 64 * 8) ((m + 7) / 8)) → Peaks (set (set heap (v / 8) x) (m / 2 + v / 64) y) (set places v w)
+peaks-cleared heap places v w m x y S in-places long e₁ e₂ =
+    let same : m ≡ length (set places v w) = long ∙ sym (length-set places v w) in
+    let low : x ≡ peak (set places v w) (v / 8 * 8) 8 = e₁ ∙ ap (λ (n : ℕ). peak (set places v w) (v / 8 * 8) (span (v / 8 * 8) n)) same ∙ group-end (set places v w) (v / 8 * 8) in
+    let high : y ≡ peak (set places v w) (v / 64 * 64) 64 = e₂ ∙ ap (λ (n : ℕ). peak (set heap (v / 8) x) (v / 64 * 8) (span (v / 64 * 8) ((n + 7) / 8))) same ∙ of-low (set heap (v / 8) x) (set places v w) (v / 64) (low-settled heap places v w S in-places x low) (omega (arith, length-set places v w, in-places)) in
+    rw long (peaks-settled heap places v w S in-places x low y high)
+
+-- ---- the largest of all
+pub top-is : (heap places : List ℕ) → Peaks heap places → max (peak heap (length places / 2) (span (length places / 2) (length places / 2 + (length places + 63) / 64))) (peak heap (length places / 2 + 8) (span (length places / 2 + 8) (length places / 2 + (length places + 63) / 64))) ≡ peak places 0 (length places)
+top-is heap places S =
+    let m = length places in
+    let e : m / 2 + (m + 63) / 64 - m / 2 ≡ (m + 63) / 64 = omega arith in
+    group-two heap (m / 2) (m / 2 + (m + 63) / 64) (omega (arith, S .few)) ∙ ap (peak heap (m / 2)) e ∙ of-high heap places (S .high)

@@ -1,0 +1,39 @@
+-- The largest words behind a bag: notions that only the bag's own functions speak of.
+use mathlib.Core.Path.{_≡_}
+use mathlib.Core.List.{List}
+use Prim.Native.Nat.{ℕ, zero, suc, _+_, _-_, _*_, _/_, _≤_, _<_, max, min}
+use lib.Dec.{eqb}
+use lib.ListN.{getD, length}
+use Rattle.bag.specs.Order.{pick}
+
+-- the largest of n entries from i on; past the end stands 0
+unfoldable pub peak : List ℕ → ℕ → ℕ → ℕ
+peak l i zero = 0
+peak l i (suc n) = max (getD l i 0) (peak l (i + 1) n)
+
+-- how many of the eight entries from i on stand before the end
+abbrev pub span : ℕ → ℕ → ℕ
+span i end = min 8 (end - i)
+
+-- the largest of the j-th `size` places stands at entry `at j` of heap
+pub record Level (heap places : List ℕ) (at : ℕ → ℕ) (size : ℕ) : Type 0 where
+  pub holds : (j : ℕ) → j * size < length places → getD heap (at j) 0 ≡ peak places (j * size) size
+
+-- the largest of each 8 places stand at the front of heap, and those of each 64 from its middle on
+pub record Peaks (heap places : List ℕ) : Type 0 where
+  pub few : length places ≤ 1024
+  pub same : length heap ≡ length places
+  pub low : Level heap places (λ j. j) 8
+  pub high : Level heap places (λ j. length places / 2 + j) 64
+
+-- r is the first of n entries from i on that is w
+pub record FirstOf (l : List ℕ) (i n w r : ℕ) : Type 0 where
+  pub from : i ≤ r
+  pub to : r < i + n
+  pub is : getD l r 0 ≡ w
+  pub no-sooner : (k : ℕ) → i ≤ k → k < r → getD l k 0 ≡ w → ⊥
+
+-- the first of n entries from i on that is w, or else the one after them
+unfoldable pub firstFrom : List ℕ → ℕ → ℕ → ℕ → ℕ
+firstFrom l i zero w = i
+firstFrom l i (suc n) w = pick (eqb (getD l i 0) w) i (firstFrom l (i + 1) n w)
