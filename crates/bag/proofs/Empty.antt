@@ -50,7 +50,7 @@ zeros-level m at size = record { holds = λ j p. getD-zeros m (at j) ∙ sym (ze
 
 -- no words
 zeros-peaks : (m : ℕ) → m ≤ 1024 → Peaks (zeros m) (zeros m)
-zeros-peaks m few = record { few = omega (arith, length-replicate {A = ℕ} m 0, few); same = refl; low = zeros-level m (λ j. j) 8; high = zeros-level m (λ j. length (zeros m) / 2 + j) 64 }
+zeros-peaks m few = record { few = omega (arith, length-replicate {A = ℕ} m 0, few); same = refl; low = zeros-level m (λ j. j) 8; high = zeros-level m (λ j. length (zeros m) / 2 + j) 64; top = zeros-level m (λ j. length (zeros m) / 2 + length (zeros m) / 4 + j) 512 }
 
 -- where all is 0 the bag is empty
 pub cleared-bag : {K : Type 0} (o : Keys K) (heap places : List ℕ) (keys : List K) (m : ℕ) → m ≤ 1024 → heap ≡ zeros m → places ≡ zeros m → length keys ≡ m → Bag o heap places keys 0

@@ -1,5 +1,5 @@
 -- The first of the largest words. The first block that has the largest word has in it the first index that has it; so the
--- way goes from the largest of 64 to the largest of 8 to the word, each time to the first. Assumes nothing.
+-- way goes from the blocks of 512 to those of 64, to those of 8, to the word, each time to the first. Assumes nothing.
 use mathlib.Core.Path.{_≡_, refl, sym, ap, subst, _∙_}
 use mathlib.Core.Bool.{Bool, true, false}
 use mathlib.Core.List.{List}
@@ -10,8 +10,8 @@ use lib.Dec.{ltb, eqb}
 use lib.ListN.{getD, length, List·getD-eq-default}
 use borrow.Author.Tests.{ltb-true, ltb-false, eqb-true, eqb-false}
 use Rattle.bag.specs.Order.{pick}
-use Rattle.bag.specs.Peaks.{peak, span, Peaks, FirstOf, firstFrom}
-use Rattle.bag.proofs.Largest.{peak-above, peak-below, Has, peak-has, group-end, group-two, of-low, of-high, top-is}
+use Rattle.bag.specs.Peaks.{peak, span, Level, Peaks, FirstOf, firstFrom}
+use Rattle.bag.proofs.Largest.{peak-two, peak-past, peak-above, peak-below, Has, peak-has, group-end, of-low, of-high, top-one, top-two}
 
 -- ---- looked for entry by entry
 -- one entry more
@@ -80,21 +80,21 @@ seek-next l i end w k S n = record {
 pub seek-end : (l : List ℕ) (i end w k : ℕ) → Seeking l i end w k → getD l k 0 ≡ w → FirstOf l i (end - i) w k
 seek-end l i end w k S e = record { from = S .from; to = omega (arith, S .from, seek-inside l i end w k S); is = e; no-sooner = S .none }
 
--- a way that is chosen
-pub half-near : (t : Bool) (i : ℕ) → pick t (i + 8) i ≤ i + 8
-half-near true i = omega arith
-half-near false i = omega arith
+-- where something is larger than 0 there is an entry
+pub peak-room : (l : List ℕ) (i : ℕ) → 0 < peak l i (length l) → 0 < length l
+peak-room l i s = go (length l) refl
+  where
+    go : (n : ℕ) → length l ≡ n → 0 < length l
+    go zero e = absurd (omega (arith, s, peak-past l i (length l) (omega (arith, e))))
+    go (suc n) e = omega (arith, e)
 
 -- ---- from block to block
-module _ (heap places : List ℕ) (S : Peaks heap places) (w : ℕ) (most : w ≡ peak places 0 (length places)) (some : 0 < w) where
-  abbrev base : ℕ
-  base = length places / 2
+module _ (heap places : List ℕ) (S : Peaks heap places) (w : ℕ) (most : w ≡ peak places 0 (length places)) where
+  abbrev middle : ℕ
+  middle = length places / 2
 
-  abbrev blocks : ℕ
-  blocks = (length places + 63) / 64
-
-  abbrev end : ℕ
-  end = base + blocks
+  abbrev last : ℕ
+  last = length places / 2 + length places / 4
 
   -- no word is larger
   under : (u : ℕ) → u < length places → getD places u 0 ≤ w
@@ -107,81 +107,72 @@ module _ (heap places : List ℕ) (S : Peaks heap places) (w : ℕ) (most : w �
       go k true e = under k (ltb-true k (length places) e)
       go k false e = omega (arith, List·getD-eq-default places 0 {n = k} (ltb-false k (length places) e))
 
-  -- the largest of the first eight blocks of 64, and of the others
-  abbrev front : ℕ
-  front = peak heap base (span base end)
+  -- the first block of 512 that has w: the first of all, or the second
+  module _ (room : 0 < length places) where
+    top-front : w ≤ getD heap last 0 → FirstOf heap last ((length places + 511) / 512) w (last + 0)
+    top-front e =
+        let here : getD heap (last + 0) 0 ≡ peak places (0 * 512) 512 = S .top .holds 0 (omega (arith, room)) in
+        let z : last + 0 ≡ last = omega arith in
+        let same = ap (λ (x : ℕ). getD heap x 0) z in
+        record { from = omega arith; to = omega (arith, room); is = omega (arith, here, same, e, peak-under (0 * 512) 512); no-sooner = λ k a b f. omega (arith, a, b) }
 
-  abbrev back : ℕ
-  back = peak heap (base + 8) (span (base + 8) end)
+    top-back : getD heap last 0 < w → FirstOf heap last ((length places + 511) / 512) w (last + 1)
+    top-back e = go (ltb 512 (length places)) refl
+      where
+        go : (t : Bool) → ltb 512 (length places) ≡ t → FirstOf heap last ((length places + 511) / 512) w (last + 1)
+        go false f = absurd (omega (arith, e, most, top-one heap places S room (ltb-false 512 (length places) f)))
+        go true f =
+            let many = ltb-true 512 (length places) f in
+            let both = peak-two heap last ∙ top-two heap places S many ∙ sym most in
+            record { from = omega arith; to = omega (arith, many); is = omega (arith, e, both); no-sooner = λ k a b g. let z : k ≡ last = omega (arith, a, b) in omega (arith, e, g, ap (λ (x : ℕ). getD heap x 0) z) }
 
-  either : max front back ≡ w
-  either = top-is heap places S ∙ sym most
+    pub top-first : (r : ℕ) (t : Bool) → ltb (getD heap last 0) w ≡ t → r ≡ pick t 1 0 → FirstOf heap last ((length places + 511) / 512) w (last + r)
+    top-first r true e f = subst (λ (x : ℕ). FirstOf heap last ((length places + 511) / 512) w (last + x)) (sym f) (top-back (ltb-true (getD heap last 0) w e))
+    top-first r false e f = subst (λ (x : ℕ). FirstOf heap last ((length places + 511) / 512) w (last + x)) (sym f) (top-front (ltb-false (getD heap last 0) w e))
 
-  -- w is looked for where it is
-  pub half-right : w ≡ peak heap (pick (ltb front w) (base + 8) base) (span (pick (ltb front w) (base + 8) base) end)
-  half-right = go (ltb front w) refl
-    where
-      go : (t : Bool) → ltb front w ≡ t → w ≡ peak heap (pick t (base + 8) base) (span (pick t (base + 8) base) end)
-      go true e = omega (arith, ltb-true front w e, either)
-      go false e = omega (arith, ltb-false front w e, either)
+  -- in it
+  module _ (a : ℕ) (A : FirstOf heap last ((length places + 511) / 512) w (last + a)) where
+    a-in : a * 512 < length places
+    a-in = omega (arith, A .to)
 
-  -- and there is the first of all
-  pub half-first : (r : ℕ) → FirstOf heap (pick (ltb front w) (base + 8) base) (span (pick (ltb front w) (base + 8) base) end) w r → FirstOf heap base blocks w r
-  half-first r = go (ltb front w) refl
-    where
-      go : (t : Bool) → ltb front w ≡ t → FirstOf heap (pick t (base + 8) base) (span (pick t (base + 8) base) end) w r → FirstOf heap base blocks w r
-      go true e F =
-          let less = ltb-true front w e in
-          let full : span base end ≡ 8 = omega (arith, F .from, F .to) in
-          record {
-            from = omega (arith, F .from);
-            to = omega (arith, F .from, F .to);
-            is = F .is;
-            no-sooner = λ k a b z. sooner full less F k a b z (ltb k (base + 8)) refl;
-          }
-        where
-          sooner : span base end ≡ 8 → front < w → FirstOf heap (base + 8) (span (base + 8) end) w r → (k : ℕ) → base ≤ k → k < r → getD heap k 0 ≡ w → (t : Bool) → ltb k (base + 8) ≡ t → ⊥
-          sooner full less F k a b z true g = let h = ltb-true k (base + 8) g in omega (arith, less, z, peak-above heap base (span base end) k a (omega (arith, h, full)))
-          sooner full less F k a b z false g = F .no-sooner k (ltb-false k (base + 8) g) b z
-      go false e F = record { from = F .from; to = omega (arith, F .to); is = F .is; no-sooner = F .no-sooner }
+    pub top-right : w ≡ peak heap (middle + a * 8) (span (middle + a * 8) (middle + (length places + 63) / 64))
+    top-right = sym (A .is) ∙ S .top .holds a a-in ∙ sym (of-high heap places a (S .high) a-in)
 
-  -- in the first block of 64 that has w
-  module _ (h : ℕ) (H : FirstOf heap base blocks w h) where
-    -- it is its b-th
-    abbrev b : ℕ
-    b = h - base
+    -- the first block of 64
+    module _ (h : ℕ) (H : FirstOf heap (middle + a * 8) (span (middle + a * 8) (middle + (length places + 63) / 64)) w h) where
+      -- it is its b-th
+      abbrev b : ℕ
+      b = h - middle
 
-    b-in : b * 64 < length places
-    b-in = omega (arith, H .from, H .to)
+      b-in : b * 64 < length places
+      b-in = omega (arith, H .from, H .to)
 
-    pub high-right : w ≡ peak heap (b * 8) (span (b * 8) ((length places + 7) / 8))
-    high-right =
-        let e : base + b ≡ h = omega (arith, H .from) in
-        sym (H .is) ∙ ap (λ (x : ℕ). getD heap x 0) (sym e) ∙ S .high .holds b b-in ∙ sym (of-low heap places b (S .low) b-in)
+      pub high-right : w ≡ peak heap (b * 8) (span (b * 8) ((length places + 7) / 8))
+      high-right =
+          let e : middle + b ≡ h = omega (arith, H .from) in
+          sym (H .is) ∙ ap (λ (x : ℕ). getD heap x 0) (sym e) ∙ S .high .holds b b-in ∙ sym (of-low heap places b (S .low) b-in)
 
-    -- the first block of 8
-    module _ (c : ℕ) (C : FirstOf heap (b * 8) (span (b * 8) ((length places + 7) / 8)) w c) where
-      c-in : c * 8 < length places
-      c-in = omega (arith, C .from, C .to)
+      -- in it the first block of 8
+      module _ (c : ℕ) (C : FirstOf heap (b * 8) (span (b * 8) ((length places + 7) / 8)) w c) where
+        c-in : c * 8 < length places
+        c-in = omega (arith, C .from, C .to)
 
-      pub low-right : w ≡ peak places (c * 8) (span (c * 8) (length places))
-      low-right = sym (C .is) ∙ S .low .holds c c-in ∙ sym (group-end places (c * 8))
+        pub low-right : w ≡ peak places (c * 8) (span (c * 8) (length places))
+        low-right = sym (C .is) ∙ S .low .holds c c-in ∙ sym (group-end places (c * 8))
 
-      -- and in it the first index
-      pub first-all : (r : ℕ) → FirstOf places (c * 8) (span (c * 8) (length places)) w r → FirstOf places 0 (length places) w r
-      first-all r R = record { from = omega arith; to = omega (arith, R .from, R .to); is = R .is; no-sooner = λ u p q z. none u (omega (arith, q, R .from, R .to)) q z }
-        where
-          -- a block that holds w has it as its largest
-          has-8 : (u : ℕ) → u < length places → getD places u 0 ≡ w → getD heap (u / 8) 0 ≡ w
-          has-8 u p z = omega (arith, S .low .holds (u / 8) (omega (arith, p)), z, peak-above places (u / 8 * 8) 8 u (omega arith) (omega arith), peak-under (u / 8 * 8) 8)
+        -- and in it the first index
+        pub first-all : (r : ℕ) → FirstOf places (c * 8) (span (c * 8) (length places)) w r → FirstOf places 0 (length places) w r
+        first-all r R = record { from = omega arith; to = omega (arith, R .from, R .to); is = R .is; no-sooner = λ u p q z. none u (omega (arith, q, R .from, R .to)) q z }
+          where
+            -- a block that has w in it has it as its largest
+            largest : (at : ℕ → ℕ) (size u j : ℕ) → Level heap places at size → j * size ≤ u → u < j * size + size → u < length places → getD places u 0 ≡ w → getD heap (at j) 0 ≡ w
+            largest at size u j L from to p z = omega (arith, L .holds j (omega (arith, from, p)), z, peak-above places (j * size) size u from to, peak-under (j * size) size)
 
-          has-64 : (u : ℕ) → u < length places → getD places u 0 ≡ w → getD heap (base + u / 64) 0 ≡ w
-          has-64 u p z = omega (arith, S .high .holds (u / 64) (omega (arith, p)), z, peak-above places (u / 64 * 64) 64 u (omega arith) (omega arith), peak-under (u / 64 * 64) 64)
-
-          none : (u : ℕ) → u < length places → u < r → getD places u 0 ≡ w → ⊥
-          none u p q z = go (ltb u (c * 8)) refl (ltb (u / 8) (b * 8)) refl
-            where
-              go : (s : Bool) → ltb u (c * 8) ≡ s → (t : Bool) → ltb (u / 8) (b * 8) ≡ t → ⊥
-              go false e t f = R .no-sooner u (ltb-false u (c * 8) e) q z
-              go true e false f = C .no-sooner (u / 8) (ltb-false (u / 8) (b * 8) f) (omega (arith, ltb-true u (c * 8) e)) (has-8 u p z)
-              go true e true f = H .no-sooner (base + u / 64) (omega arith) (omega (arith, H .from, ltb-true (u / 8) (b * 8) f)) (has-64 u p z)
+            none : (u : ℕ) → u < length places → u < r → getD places u 0 ≡ w → ⊥
+            none u p q z = go (ltb u (c * 8)) refl (ltb (u / 8) (b * 8)) refl (ltb (u / 64) (a * 8)) refl
+              where
+                go : (s : Bool) → ltb u (c * 8) ≡ s → (t : Bool) → ltb (u / 8) (b * 8) ≡ t → (x : Bool) → ltb (u / 64) (a * 8) ≡ x → ⊥
+                go false e t f x g = R .no-sooner u (ltb-false u (c * 8) e) q z
+                go true e false f x g = C .no-sooner (u / 8) (ltb-false (u / 8) (b * 8) f) (omega (arith, ltb-true u (c * 8) e)) (largest (λ j. j) 8 u (u / 8) (S .low) (omega arith) (omega arith) p z)
+                go true e true f false g = H .no-sooner (middle + u / 64) (omega (arith, ltb-false (u / 64) (a * 8) g)) (omega (arith, H .from, ltb-true (u / 8) (b * 8) f)) (largest (λ j. middle + j) 64 u (u / 64) (S .high) (omega arith) (omega arith) p z)
+                go true e true f true g = A .no-sooner (last + u / 512) (omega arith) (omega (arith, ltb-true (u / 64) (a * 8) g)) (largest (λ j. last + j) 512 u (u / 512) (S .top) (omega arith) (omega arith) p z)

@@ -151,23 +151,6 @@ group-end l i = go (ltb (length l) (i + 8)) refl
     go true e = let h = ltb-true (length l) (i + 8) e in peak-reach l i (span i (length l)) 8 (omega (arith, h)) (omega (arith, h))
     go false e = ap (peak l i) (omega (arith, ltb-false (length l) (i + 8) e))
 
--- two groups side by side
-pub group-two : (l : List ℕ) (i end : ℕ) → end ≤ i + 16 → max (peak l i (span i end)) (peak l (i + 8) (span (i + 8) end)) ≡ peak l i (end - i)
-group-two l i end p = go (ltb end (i + 8)) refl
-  where
-    go : (t : Bool) → ltb end (i + 8) ≡ t → max (peak l i (span i end)) (peak l (i + 8) (span (i + 8) end)) ≡ peak l i (end - i)
-    go true e =
-        let h = ltb-true end (i + 8) e in
-        let x : span i end ≡ end - i = omega (arith, h) in
-        let y : span (i + 8) end ≡ 0 = omega (arith, h) in
-        rw (x, y) (omega (arith, peak-none l (i + 8)))
-    go false e =
-        let h = ltb-false end (i + 8) e in
-        let x : span i end ≡ 8 = omega (arith, h) in
-        let y : span (i + 8) end ≡ end - i - 8 = omega (arith, h, p) in
-        let z : end - i ≡ 8 + (end - i - 8) = omega (arith, h) in
-        rw (x, y) (sym (ap (peak l i) z ∙ peak-parts l i 8 (end - i - 8)))
-
 -- ---- the largest of the largest
 -- of n parts of s entries, whose largest stand side by side
 pub peak-peaks : (heap l : List ℕ) (s i j n : ℕ) → ((k : ℕ) → k < n → getD heap (i + k) 0 ≡ peak l ((j + k) * s) s) → peak heap i n ≡ peak l (j * s) (n * s)
@@ -206,6 +189,13 @@ block-64 v = record { from = omega arith; to = omega arith; away = λ j n. go j 
     go j n true e = inl (ltb-true v (j * 64) e)
     go j n false e = let h = ltb-false v (j * 64) e in inr (omega (arith, h, n))
 
+pub block-512 : (v : ℕ) → Block 512 v (v / 512)
+block-512 v = record { from = omega arith; to = omega arith; away = λ j n. go j n (ltb v (j * 512)) refl }
+  where
+    go : (j : ℕ) → (j ≡ v / 512 → ⊥) → (t : Bool) → ltb v (j * 512) ≡ t → (v < j * 512) ⊎ (j * 512 + 512 ≤ v)
+    go j n true e = inl (ltb-true v (j * 512) e)
+    go j n false e = let h = ltb-false v (j * 512) e in inr (omega (arith, h, n))
+
 -- a level with one entry that may be wrong, that of block q
 pub record Unsettled (heap places : List ℕ) (at : ℕ → ℕ) (size q : ℕ) : Type 0 where
   pub holds : (j : ℕ) → j * size < length places → (j ≡ q → ⊥) → getD heap (at j) 0 ≡ peak places (j * size) size
@@ -234,106 +224,154 @@ level-beside heap places at size c y L in-heap right = record { holds = λ j p. 
     go j p (yes d) = subst (λ (x : ℕ). getD (set heap c y) x 0 ≡ peak places (j * size) size) (sym d) (getD-set-same heap c y 0 in-heap ∙ right j p d)
     go j p (no d) = getD-set-other heap c (at j) y 0 d ∙ L .holds j p
 
--- where the two levels stand
+-- where the three levels stand
 abbrev front : ℕ → ℕ
 front j = j
 
 abbrev middle : ℕ → ℕ → ℕ
 middle m j = m / 2 + j
 
+abbrev last : ℕ → ℕ → ℕ
+last m j = m / 2 + m / 4 + j
+
 -- ---- the entries of one level give those of the next
--- eight of the largest of 8 give one of 64
+-- eight of one size, or those that there are, give one of the size eight times as large
+pub eight-blocks : (heap places : List ℕ) (s i j n : ℕ) → ((k : ℕ) → k < n → getD heap (i + k) 0 ≡ peak places ((j + k) * s) s) → (n ≡ 8) ⊎ ((length places ≤ j * s + n * s) × (length places ≤ j * s + 8 * s)) → peak heap i n ≡ peak places (j * s) (8 * s)
+eight-blocks heap places s i j n f (inl e) = peak-peaks heap places s i j n f ∙ ap (λ (x : ℕ). peak places (j * s) (x * s)) e
+eight-blocks heap places s i j n f (inr e) = peak-peaks heap places s i j n f ∙ peak-reach places (j * s) (n * s) (8 * s) (e .0) (e .1)
+
+-- the largest of 8 give those of 64
 pub of-low : (heap places : List ℕ) (q : ℕ) → Level heap places front 8 → q * 64 < length places → peak heap (q * 8) (span (q * 8) ((length places + 7) / 8)) ≡ peak places (q * 64) 64
 of-low heap places q L p =
     let n = span (q * 8) ((length places + 7) / 8) in
     let e : q * 8 * 8 ≡ q * 64 = omega arith in
-    let parts = peak-peaks heap places 8 (q * 8) (q * 8) n (λ k a. L .holds (q * 8 + k) (omega (arith, a))) in
-    parts ∙ ap (λ (x : ℕ). peak places x (n * 8)) e ∙ go (ltb (length places) (q * 64 + 64)) refl
+    eight-blocks heap places 8 (q * 8) (q * 8) n (λ k a. L .holds (q * 8 + k) (omega (arith, a))) (go (ltb (length places) (q * 64 + 64)) refl) ∙ ap (λ (x : ℕ). peak places x 64) e
   where
-    go : (t : Bool) → ltb (length places) (q * 64 + 64) ≡ t → peak places (q * 64) (span (q * 8) ((length places + 7) / 8) * 8) ≡ peak places (q * 64) 64
-    go true e = let h = ltb-true (length places) (q * 64 + 64) e in peak-reach places (q * 64) (span (q * 8) ((length places + 7) / 8) * 8) 64 (omega (arith, h, p)) (omega (arith, h))
-    go false e = let h = ltb-false (length places) (q * 64 + 64) e in ap (peak places (q * 64)) (omega (arith, h))
+    go : (t : Bool) → ltb (length places) (q * 64 + 64) ≡ t → (span (q * 8) ((length places + 7) / 8) ≡ 8) ⊎ ((length places ≤ q * 8 * 8 + span (q * 8) ((length places + 7) / 8) * 8) × (length places ≤ q * 8 * 8 + 8 * 8))
+    go true e = let h = ltb-true (length places) (q * 64 + 64) e in inr (omega (arith, h, p), omega (arith, h))
+    go false e = let h = ltb-false (length places) (q * 64 + 64) e in inl (omega (arith, h))
 
--- those of 64 together give the largest of all
-pub of-high : (heap places : List ℕ) → Level heap places (middle (length places)) 64 → peak heap (length places / 2) ((length places + 63) / 64) ≡ peak places 0 (length places)
-of-high heap places L =
+-- those of 64 give those of 512
+pub of-high : (heap places : List ℕ) (q : ℕ) → Level heap places (middle (length places)) 64 → q * 512 < length places → peak heap (length places / 2 + q * 8) (span (length places / 2 + q * 8) (length places / 2 + (length places + 63) / 64)) ≡ peak places (q * 512) 512
+of-high heap places q L p =
     let m = length places in
-    let n = (m + 63) / 64 in
-    let parts = peak-peaks heap places 64 (m / 2) 0 n (λ k a. let e : 0 + k ≡ k = omega arith in subst (λ (x : ℕ). getD heap (m / 2 + k) 0 ≡ peak places (x * 64) 64) (sym e) (L .holds k (omega (arith, a)))) in
-    let z : 0 * 64 ≡ 0 = omega arith in
-    parts ∙ ap (λ (x : ℕ). peak places x (n * 64)) z ∙ peak-reach places 0 (n * 64) m (omega arith) (omega arith)
+    let n = span (m / 2 + q * 8) (m / 2 + (m + 63) / 64) in
+    let e : q * 8 * 64 ≡ q * 512 = omega arith in
+    eight-blocks heap places 64 (m / 2 + q * 8) (q * 8) n (λ k a. let z : m / 2 + q * 8 + k ≡ m / 2 + (q * 8 + k) = omega arith in ap (λ (x : ℕ). getD heap x 0) z ∙ L .holds (q * 8 + k) (omega (arith, a))) (go (ltb (length places) (q * 512 + 512)) refl) ∙ ap (λ (x : ℕ). peak places x 512) e
+  where
+    go : (t : Bool) → ltb (length places) (q * 512 + 512) ≡ t → (span (length places / 2 + q * 8) (length places / 2 + (length places + 63) / 64) ≡ 8) ⊎ ((length places ≤ q * 8 * 64 + span (length places / 2 + q * 8) (length places / 2 + (length places + 63) / 64) * 64) × (length places ≤ q * 8 * 64 + 8 * 64))
+    go true e = let h = ltb-true (length places) (q * 512 + 512) e in inr (omega (arith, h, p), omega (arith, h))
+    go false e = let h = ltb-false (length places) (q * 512 + 512) e in inl (omega (arith, h))
+
+-- those of 512, two at most, give the largest of all
+pub of-top : (heap places : List ℕ) → Level heap places (last (length places)) 512 → peak heap (length places / 2 + length places / 4) ((length places + 511) / 512) ≡ peak places 0 (length places)
+of-top heap places L =
+    let m = length places in
+    let t = m / 2 + m / 4 in
+    let n = (m + 511) / 512 in
+    let parts = peak-peaks heap places 512 t 0 n (λ k a. let e : 0 + k ≡ k = omega arith in subst (λ (x : ℕ). getD heap (t + k) 0 ≡ peak places (x * 512) 512) (sym e) (L .holds k (omega (arith, a)))) in
+    let z : 0 * 512 ≡ 0 = omega arith in
+    parts ∙ ap (λ (x : ℕ). peak places x (n * 512)) z ∙ peak-reach places 0 (n * 512) m (omega arith) (omega arith)
 
 -- ---- the word of v is replaced
+-- where two levels share an entry there is one block of each, and one value is right for both
+shared : (places : List ℕ) (a b i j y : ℕ) → i ≡ 0 → j ≡ 0 → length places ≤ a → length places ≤ b → y ≡ peak places i b → y ≡ peak places j a
+shared places a b i j y e f p q r = r ∙ ap (λ (x : ℕ). peak places x b) (e ∙ sym f) ∙ peak-reach places j b a (omega (arith, q)) (omega (arith, p))
+
 module _ (heap places : List ℕ) (v w : ℕ) (S : Peaks heap places) (in-places : v < length places) where
   long : length (set places v w) ≡ length places
   long = length-set places v w
+
+  abbrev in-high : ℕ
+  in-high = length places / 2 + v / 64
+
+  abbrev in-top : ℕ
+  in-top = length places / 2 + length places / 4 + v / 512
 
   -- the largest of its 8 is set right
   module _ (x : ℕ) (low-right : x ≡ peak (set places v w) (v / 8 * 8) 8) where
     pub low-settled : Level (set heap (v / 8) x) (set places v w) front 8
     low-settled = level-settled heap (set places v w) front 8 (v / 8) x (level-moved heap places front 8 v (v / 8) w (S .low) (block-8 v)) (λ j e. e) (omega (arith, S .same, in-places)) low-right
 
-    high-waits : Unsettled (set heap (v / 8) x) (set places v w) (middle (length places)) 64 (v / 64)
-    high-waits = unsettled-beside heap (set places v w) (middle (length places)) 64 (v / 64) (v / 8) x (level-moved heap places (middle (length places)) 64 v (v / 64) w (S .high) (block-64 v)) (λ j p n e. n (omega (arith, p, e, long, in-places)))
+    -- then the largest of its 64
+    module _ (y : ℕ) (high-right : y ≡ peak (set places v w) (v / 64 * 64) 64) where
+      room : in-high < length (set heap (v / 8) x)
+      room = omega (arith, length-set heap (v / 8) x, S .same, in-places)
 
-    -- and then the largest of its 64
-    pub peaks-settled : (y : ℕ) → y ≡ peak (set places v w) (v / 64 * 64) 64 → Peaks (set (set heap (v / 8) x) (length places / 2 + v / 64) y) (set places v w)
-    peaks-settled y high-right = record {
-      few = omega (arith, long, S .few);
-      same = length-set (set heap (v / 8) x) (length places / 2 + v / 64) y ∙ length-set heap (v / 8) x ∙ S .same ∙ sym long;
-      low = level-beside (set heap (v / 8) x) (set places v w) front 8 (length places / 2 + v / 64) y low-settled inside (λ j p e. alone j p e);
-      high = subst (λ (m : ℕ). Level (set (set heap (v / 8) x) (length places / 2 + v / 64) y) (set places v w) (middle m) 64) (sym long) (level-settled (set heap (v / 8) x) (set places v w) (middle (length places)) 64 (v / 64) y high-waits (λ j e. omega (arith, e)) inside high-right);
-    }
-      where
-        inside : length places / 2 + v / 64 < length (set heap (v / 8) x)
-        inside = omega (arith, length-set heap (v / 8) x, S .same, in-places)
+      room-top : in-top < length (set (set heap (v / 8) x) in-high y)
+      room-top = omega (arith, length-set (set heap (v / 8) x) in-high y, length-set heap (v / 8) x, S .same, in-places)
 
-        -- where both stand in one entry, there is one place
-        alone : (j : ℕ) → j * 8 < length (set places v w) → j ≡ length places / 2 + v / 64 → y ≡ peak (set places v w) (j * 8) 8
-        alone j p e =
-            let a : v / 64 * 64 ≡ j * 8 = omega (arith, p, e, long, in-places) in
-            let b : length (set places v w) ≤ 8 = omega (arith, p, e, long, in-places) in
-            high-right ∙ ap (λ (i : ℕ). peak (set places v w) i 64) a ∙ peak-reach (set places v w) (j * 8) 64 8 (omega (arith, b)) (omega (arith, b))
+      pub high-settled : Level (set (set heap (v / 8) x) in-high y) (set places v w) (middle (length places)) 64
+      high-settled = level-settled (set heap (v / 8) x) (set places v w) (middle (length places)) 64 (v / 64) y (unsettled-beside heap (set places v w) (middle (length places)) 64 (v / 64) (v / 8) x (level-moved heap places (middle (length places)) 64 v (v / 64) w (S .high) (block-64 v)) (λ j p n e. n (omega (arith, p, e, long, in-places)))) (λ j e. omega (arith, e)) room high-right
 
-  -- a word that grows: what stands grows with it
-  module _ (grown : getD places v 0 ≤ w) where
-    pub low-grown : max (getD heap (v / 8) 0) w ≡ peak (set places v w) (v / 8 * 8) 8
-    low-grown = ap (λ (x : ℕ). max x w) (S .low .holds (v / 8) (omega (arith, in-places))) ∙ sym (peak-grown places v w (v / 8 * 8) 8 in-places (omega arith) (omega arith) grown)
+      low-beside : Level (set (set heap (v / 8) x) in-high y) (set places v w) front 8
+      low-beside = level-beside (set heap (v / 8) x) (set places v w) front 8 in-high y low-settled room (λ j p e. shared (set places v w) 8 64 (v / 64 * 64) (j * 8) y (omega (arith, p, e, long, in-places)) (omega (arith, p, e, long, in-places)) (omega (arith, p, e, long, in-places)) (omega (arith, p, e, long, in-places)) high-right)
 
-    pub high-grown : (x : ℕ) → x ≡ max (getD heap (v / 8) 0) w → max (getD (set heap (v / 8) x) (length places / 2 + v / 64) 0) w ≡ peak (set places v w) (v / 64 * 64) 64
-    high-grown x e = go (ℕ-discrete (length places / 2 + v / 64) (v / 8))
-      where
-        whole : peak (set places v w) (v / 64 * 64) 64 ≡ max (peak places (v / 64 * 64) 64) w
-        whole = peak-grown places v w (v / 64 * 64) 64 in-places (omega arith) (omega arith) grown
+      top-waits : Unsettled (set (set heap (v / 8) x) in-high y) (set places v w) (last (length places)) 512 (v / 512)
+      top-waits = unsettled-beside (set heap (v / 8) x) (set places v w) (last (length places)) 512 (v / 512) in-high y (unsettled-beside heap (set places v w) (last (length places)) 512 (v / 512) (v / 8) x (level-moved heap places (last (length places)) 512 v (v / 512) w (S .top) (block-512 v)) (λ j p n e. n (omega (arith, p, e, long, in-places)))) (λ j p n e. n (omega (arith, p, e, long, in-places)))
 
-        stood : getD heap (length places / 2 + v / 64) 0 ≡ peak places (v / 64 * 64) 64
-        stood = S .high .holds (v / 64) (omega (arith, in-places))
-
-        go : Dec (length places / 2 + v / 64 ≡ v / 8) → max (getD (set heap (v / 8) x) (length places / 2 + v / 64) 0) w ≡ peak (set places v w) (v / 64 * 64) 64
-        go (no d) = ap (λ (z : ℕ). max z w) (getD-set-other heap (v / 8) (length places / 2 + v / 64) x 0 d ∙ stood) ∙ sym whole
-        go (yes d) =
-            let a : getD (set heap (v / 8) x) (length places / 2 + v / 64) 0 ≡ x = ap (λ (z : ℕ). getD (set heap (v / 8) x) z 0) d ∙ getD-set-same heap (v / 8) x 0 (omega (arith, S .same, in-places)) in
-            let b : getD heap (v / 8) 0 ≡ peak places (v / 64 * 64) 64 = ap (λ (z : ℕ). getD heap z 0) (sym d) ∙ stood in
-            omega (arith, a, b, e, whole)
+      -- and then the largest of its 512
+      pub peaks-settled : (z : ℕ) → z ≡ peak (set places v w) (v / 512 * 512) 512 → Peaks (set (set (set heap (v / 8) x) in-high y) in-top z) (set places v w)
+      peaks-settled z top-right = record {
+        few = omega (arith, long, S .few);
+        same = length-set (set (set heap (v / 8) x) in-high y) in-top z ∙ length-set (set heap (v / 8) x) in-high y ∙ length-set heap (v / 8) x ∙ S .same ∙ sym long;
+        low = level-beside (set (set heap (v / 8) x) in-high y) (set places v w) front 8 in-top z low-beside room-top (λ j p e. shared (set places v w) 8 512 (v / 512 * 512) (j * 8) z (omega (arith, p, e, long, in-places)) (omega (arith, p, e, long, in-places)) (omega (arith, p, e, long, in-places)) (omega (arith, p, e, long, in-places)) top-right);
+        high = subst (λ (m : ℕ). Level (set (set (set heap (v / 8) x) in-high y) in-top z) (set places v w) (middle m) 64) (sym long) (level-beside (set (set heap (v / 8) x) in-high y) (set places v w) (middle (length places)) 64 in-top z high-settled room-top (λ j p e. shared (set places v w) 64 512 (v / 512 * 512) (j * 64) z (omega (arith, p, e, long, in-places)) (omega (arith, p, e, long, in-places)) (omega (arith, p, e, long, in-places)) (omega (arith, p, e, long, in-places)) top-right));
+        top = subst (λ (m : ℕ). Level (set (set (set heap (v / 8) x) in-high y) in-top z) (set places v w) (last m) 512) (sym long) (level-settled (set (set heap (v / 8) x) in-high y) (set places v w) (last (length places)) 512 (v / 512) z top-waits (λ j e. omega (arith, e)) room-top top-right);
+      }
 
 -- ---- what the functions leave
+-- an entry that grows to w, and then another or the same
+lift-lift : (heap : List ℕ) (c i w : ℕ) → c < length heap → max (getD (set heap c (max (getD heap c 0) w)) i 0) w ≡ max (getD heap i 0) w
+lift-lift heap c i w p = go (ℕ-discrete i c)
+  where
+    go : Dec (i ≡ c) → max (getD (set heap c (max (getD heap c 0) w)) i 0) w ≡ max (getD heap i 0) w
+    go (no d) = ap (λ (x : ℕ). max x w) (getD-set-other heap c i (max (getD heap c 0) w) 0 d)
+    go (yes d) =
+        let a : getD (set heap c (max (getD heap c 0) w)) i 0 ≡ max (getD heap c 0) w = ap (λ (x : ℕ). getD (set heap c (max (getD heap c 0) w)) x 0) d ∙ getD-set-same heap c (max (getD heap c 0) w) 0 p in
+        omega (arith, a, ap (λ (x : ℕ). getD heap x 0) d)
+
+-- what stands for a block grows with the word in it
+block-grown : (heap places : List ℕ) (at : ℕ → ℕ) (size v q w : ℕ) → Level heap places at size → Block size v q → v < length places → getD places v 0 ≤ w → max (getD heap (at q) 0) w ≡ peak (set places v w) (q * size) size
+block-grown heap places at size v q w L B in-places grown = let in-q : q * size < length places = omega (arith, B .from, in-places) in ap (λ (x : ℕ). max x w) (L .holds q in-q) ∙ sym (peak-grown places v w (q * size) size in-places (B .from) (B .to) grown)
+
 -- after a raise
-pub peaks-raised : (heap places : List ℕ) (v w m : ℕ) (heap₁ heap₂ : List ℕ) → Peaks heap places → v < length places → getD places v 0 ≤ w → m ≡ length places → heap₁ ≡ set heap (v / 8) (max (getD heap (v / 8) 0) w) → heap₂ ≡ set heap₁ (m / 2 + v / 64) (max (getD heap₁ (m / 2 + v / 64) 0) w) → Peaks heap₂ (set places v w)
-peaks-raised heap places v w m heap₁ heap₂ S in-places grown long e₁ e₂ =
+pub peaks-raised : (heap places : List ℕ) (v w m : ℕ) (heap₁ heap₂ heap₃ : List ℕ) → Peaks heap places → v < length places → getD places v 0 ≤ w → m ≡ length places → heap₁ ≡ set heap (v / 8) (max (getD heap (v / 8) 0) w) → heap₂ ≡ set heap₁ (m / 2 + v / 64) (max (getD heap₁ (m / 2 + v / 64) 0) w) → heap₃ ≡ set heap₂ (m / 2 + m / 4 + v / 512) (max (getD heap₂ (m / 2 + m / 4 + v / 512) 0) w) → Peaks heap₃ (set places v w)
+peaks-raised heap places v w m heap₁ heap₂ heap₃ S in-places grown long e₁ e₂ e₃ =
+    let high = length places / 2 + v / 64 in
+    let top = length places / 2 + length places / 4 + v / 512 in
     let x = max (getD heap (v / 8) 0) w in
-    rw (e₂, e₁, long) (peaks-settled heap places v w S in-places x (low-grown heap places v w S in-places grown) (max (getD (set heap (v / 8) x) (length places / 2 + v / 64) 0) w) (high-grown heap places v w S in-places grown x refl))
+    let h₁ = set heap (v / 8) x in
+    let y = max (getD h₁ high 0) w in
+    let h₂ = set h₁ high y in
+    let in-low : v / 8 < length heap = omega (arith, S .same, in-places) in
+    let in-high : high < length h₁ = omega (arith, length-set heap (v / 8) x, S .same, in-places) in
+    let low-right = block-grown heap places front 8 v (v / 8) w (S .low) (block-8 v) in-places grown in
+    let high-right = lift-lift heap (v / 8) high w in-low ∙ block-grown heap places (middle (length places)) 64 v (v / 64) w (S .high) (block-64 v) in-places grown in
+    let top-right = lift-lift h₁ high top w in-high ∙ lift-lift heap (v / 8) top w in-low ∙ block-grown heap places (last (length places)) 512 v (v / 512) w (S .top) (block-512 v) in-places grown in
+    rw (e₃, e₂, e₁, long) (peaks-settled heap places v w S in-places x low-right y high-right (max (getD h₂ top 0) w) top-right)
 
 -- after a clear
-pub peaks-cleared : (heap places : List ℕ) (v w m x y : ℕ) → Peaks heap places → v < length places → m ≡ length places → x ≡ peak (set places v w) (v / 8 * 8) (span (v / 8 * 8) m) → y ≡ peak (set heap (v / 8) x) (v / 64 * 8) (span (v / 64 * 8) ((m + 7) / 8)) → Peaks (set (set heap (v / 8) x) (m / 2 + v / 64) y) (set places v w)
-peaks-cleared heap places v w m x y S in-places long e₁ e₂ =
-    let same : m ≡ length (set places v w) = long ∙ sym (length-set places v w) in
-    let low : x ≡ peak (set places v w) (v / 8 * 8) 8 = e₁ ∙ ap (λ (n : ℕ). peak (set places v w) (v / 8 * 8) (span (v / 8 * 8) n)) same ∙ group-end (set places v w) (v / 8 * 8) in
-    let high : y ≡ peak (set places v w) (v / 64 * 64) 64 = e₂ ∙ ap (λ (n : ℕ). peak (set heap (v / 8) x) (v / 64 * 8) (span (v / 64 * 8) ((n + 7) / 8))) same ∙ of-low (set heap (v / 8) x) (set places v w) (v / 64) (low-settled heap places v w S in-places x low) (omega (arith, length-set places v w, in-places)) in
-    rw long (peaks-settled heap places v w S in-places x low y high)
+pub peaks-cleared : (heap places : List ℕ) (v w m x y z : ℕ) → Peaks heap places → v < length places → m ≡ length places → x ≡ peak (set places v w) (v / 8 * 8) (span (v / 8 * 8) m) → y ≡ peak (set heap (v / 8) x) (v / 64 * 8) (span (v / 64 * 8) ((m + 7) / 8)) → z ≡ peak (set (set heap (v / 8) x) (m / 2 + v / 64) y) (m / 2 + v / 512 * 8) (span (m / 2 + v / 512 * 8) (m / 2 + (m + 63) / 64)) → Peaks (set (set (set heap (v / 8) x) (m / 2 + v / 64) y) (m / 2 + m / 4 + v / 512) z) (set places v w)
+peaks-cleared heap places v w m x y z S in-places long e₁ e₂ e₃ =
+    let p = set places v w in
+    let h₁ = set heap (v / 8) x in
+    let h₂ = set h₁ (length places / 2 + v / 64) y in
+    let same : length places ≡ length p = sym (length-set places v w) in
+    let low : x ≡ peak p (v / 8 * 8) 8 = e₁ ∙ ap (λ (n : ℕ). peak p (v / 8 * 8) (span (v / 8 * 8) n)) (long ∙ same) ∙ group-end p (v / 8 * 8) in
+    let high : y ≡ peak p (v / 64 * 64) 64 = e₂ ∙ ap (λ (n : ℕ). peak h₁ (v / 64 * 8) (span (v / 64 * 8) ((n + 7) / 8))) (long ∙ same) ∙ of-low h₁ p (v / 64) (low-settled heap places v w S in-places x low) (omega (arith, same, in-places)) in
+    let settled = subst (λ (n : ℕ). Level h₂ p (middle n) 64) same (high-settled heap places v w S in-places x low y high) in
+    let top : z ≡ peak p (v / 512 * 512) 512 = e₃ ∙ ap (λ (n : ℕ). peak (set h₁ (n / 2 + v / 64) y) (n / 2 + v / 512 * 8) (span (n / 2 + v / 512 * 8) (n / 2 + (n + 63) / 64))) long ∙ ap (λ (n : ℕ). peak h₂ (n / 2 + v / 512 * 8) (span (n / 2 + v / 512 * 8) (n / 2 + (n + 63) / 64))) same ∙ of-high h₂ p (v / 512) settled (omega (arith, same, in-places)) in
+    rw long (peaks-settled heap places v w S in-places x low y high z top)
 
 -- ---- the largest of all
-pub top-is : (heap places : List ℕ) → Peaks heap places → max (peak heap (length places / 2) (span (length places / 2) (length places / 2 + (length places + 63) / 64))) (peak heap (length places / 2 + 8) (span (length places / 2 + 8) (length places / 2 + (length places + 63) / 64))) ≡ peak places 0 (length places)
-top-is heap places S =
-    let m = length places in
-    let e : m / 2 + (m + 63) / 64 - m / 2 ≡ (m + 63) / 64 = omega arith in
-    group-two heap (m / 2) (m / 2 + (m + 63) / 64) (omega (arith, S .few)) ∙ ap (peak heap (m / 2)) e ∙ of-high heap places (S .high)
+-- there is one block of 512, or there are two
+pub top-one : (heap places : List ℕ) → Peaks heap places → 0 < length places → length places ≤ 512 → getD heap (length places / 2 + length places / 4) 0 ≡ peak places 0 (length places)
+top-one heap places S some few =
+    let n : (length places + 511) / 512 ≡ 1 = omega (arith, some, few) in
+    sym (peak-one heap (length places / 2 + length places / 4)) ∙ ap (peak heap (length places / 2 + length places / 4)) (sym n) ∙ of-top heap places (S .top)
+
+pub top-two : (heap places : List ℕ) → Peaks heap places → 512 < length places → peak heap (length places / 2 + length places / 4) 2 ≡ peak places 0 (length places)
+top-two heap places S many =
+    let n : (length places + 511) / 512 ≡ 2 = omega (arith, many, S .few) in
+    ap (peak heap (length places / 2 + length places / 4)) (sym n) ∙ of-top heap places (S .top)

@@ -19,12 +19,13 @@ span i end = min 8 (end - i)
 pub record Level (heap places : List ℕ) (at : ℕ → ℕ) (size : ℕ) : Type 0 where
   pub holds : (j : ℕ) → j * size < length places → getD heap (at j) 0 ≡ peak places (j * size) size
 
--- the largest of each 8 places stand at the front of heap, and those of each 64 from its middle on
+-- the largest of each 8 places stand at the front of heap, those of each 64 from its middle on, and those of each 512 in its last quarter
 pub record Peaks (heap places : List ℕ) : Type 0 where
   pub few : length places ≤ 1024
   pub same : length heap ≡ length places
   pub low : Level heap places (λ j. j) 8
   pub high : Level heap places (λ j. length places / 2 + j) 64
+  pub top : Level heap places (λ j. length places / 2 + length places / 4 + j) 512
 
 -- r is the first of n entries from i on that is w
 pub record FirstOf (l : List ℕ) (i n w r : ℕ) : Type 0 where

@@ -1,9 +1,9 @@
 // Words over lent memory, and where the largest is: each index has a word in `places`, 0 where it has none, and in `heap`
-// stand the largest of each 8 words, from its front on, and the largest of each 64, from its middle on.
+// stand the largest of each 8 words, from its front on, of each 64, from its middle on, and of each 512, in its last quarter.
 // No branch depends on a word, for which of two is larger is what no processor can foresee.
 ghost use mathlib.Core.Path.{_≡_};
 ghost use Prim.Native.Nat.{_+_, _-_, _/_, _≤_, _<_, max};
-ghost use lib.Dec.{ltb, eqb};
+ghost use lib.Dec.{eqb};
 ghost use lib.ListN.{length, getD, set};
 ghost use Rattle.bag.specs.Order.{pick};
 ghost use Rattle.bag.specs.Peaks.{peak, span, Peaks, FirstOf, firstFrom};
@@ -83,8 +83,10 @@ pub fn raise(heap: &mut [usize], places: &mut [usize], v: usize, w: usize)
     ensures { λ _. ⌜ Peaks (now (heap .exit)) (now (places .exit)) ⌝ }
 {
     places[v] = w;
+    let m = places.len();
     lift(heap, v / 8, w);
-    lift(heap, places.len() / 2 + v / 64, w);
+    lift(heap, m / 2 + v / 64, w);
+    lift(heap, m / 2 + m / 4 + v / 512, w);
 }
 
 // v's word becomes 0.
@@ -100,16 +102,21 @@ pub fn clear(heap: &mut [usize], places: &mut [usize], v: usize)
     heap[v / 8] = low;
     let high = of_group(heap, v / 64 * 8, (m + 7) / 8);
     heap[m / 2 + v / 64] = high;
+    let top = of_group(heap, m / 2 + v / 512 * 8, m / 2 + (m + 63) / 64);
+    heap[m / 2 + m / 4 + v / 512] = top;
 }
 
 // The largest word.
-pub fn top(heap: &[usize], places: &[usize]) -> usize
-    requires { ⌜ Peaks (now heap) (now places) ⌝ }
+pub fn largest(heap: &[usize], places: &[usize]) -> usize
+    requires { ⌜ Peaks (now heap) (now places) × (0 < length (now places)) ⌝ }
     ensures { λ r. ⌜ r ≡ peak (now (places .entry)) 0 (length (now (places .entry))) ⌝ }
 {
     let m = places.len();
-    let end = m / 2 + (m + 63) / 64;
-    larger(of_group(heap, m / 2, end), of_group(heap, m / 2 + 8, end))
+    let top = m / 2 + m / 4;
+    if m <= 512 {
+        return heap[top];
+    }
+    of_two(heap, top)
 }
 
 // The entry i where it is w, else r.
@@ -162,27 +169,17 @@ fn first_of_group(list: &[usize], i: usize, end: usize, w: usize) -> usize
     first_of_rest(list, i, end, w)
 }
 
-// Where to look for w: from i on, unless the largest there is smaller; then eight further.
-fn half(i: usize, x: usize, w: usize) -> usize
-    requires { ⌜ i ≤ 1024 ⌝ }
-    ensures { λ r. ⌜ r ≡ pick (ltb x w) (i + 8) i ⌝ }
-{
-    if x < w {
-        return i + 8;
-    }
-    i
-}
-
-// Where in `heap` the first of the largest of 64 stands that is w, which is the largest word.
-fn first_high(heap: &[usize], places: &[usize], w: usize) -> usize
-    requires { ⌜ Peaks (now heap) (now places) ⌝ }
-    requires { ⌜ (w ≡ peak (now places) 0 (length (now places))) × (0 < w) ⌝ }
-    ensures { λ r. ⌜ FirstOf (now (heap .entry)) (length (now (places .entry)) / 2) ((length (now (places .entry)) + 63) / 64) w r ⌝ }
+// The first block of 512 that has w, which is the largest word.
+fn first_top(heap: &[usize], places: &[usize], w: usize) -> usize
+    requires { ⌜ Peaks (now heap) (now places) × (0 < length (now places)) ⌝ }
+    requires { ⌜ w ≡ peak (now places) 0 (length (now places)) ⌝ }
+    ensures { λ r. ⌜ FirstOf (now (heap .entry)) (length (now (places .entry)) / 2 + length (now (places .entry)) / 4) ((length (now (places .entry)) + 511) / 512) w (length (now (places .entry)) / 2 + length (now (places .entry)) / 4 + r) ⌝ }
 {
     let m = places.len();
-    let end = m / 2 + (m + 63) / 64;
-    let x = of_group(heap, m / 2, end);
-    first_of_group(heap, half(m / 2, x, w), end, w)
+    if heap[m / 2 + m / 4] < w {
+        return 1;
+    }
+    0
 }
 
 // The first index that has the largest word, which is not 0.
@@ -192,8 +189,9 @@ pub fn first(heap: &[usize], places: &[usize]) -> usize
     ensures { λ r. ⌜ FirstOf (now (places .entry)) 0 (length (now (places .entry))) (peak (now (places .entry)) 0 (length (now (places .entry)))) r ⌝ }
 {
     let m = places.len();
-    let w = top(heap, places);
-    let high = first_high(heap, places, w);
+    let w = largest(heap, places);
+    let top = first_top(heap, places, w);
+    let high = first_of_group(heap, m / 2 + top * 8, m / 2 + (m + 63) / 64, w);
     let low = first_of_group(heap, (high - m / 2) * 8, (m + 7) / 8, w);
     first_of_group(places, low * 8, m, w)
 }

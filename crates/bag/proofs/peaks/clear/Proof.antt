@@ -1,8 +1,8 @@
 -- `bag::peaks::clear` meets its contract. Assumes nothing.
 use mathlib.Core.Path.{refl}
 use native.Mathlib.Omega.{arith}
-use Prim.Native.Nat.{_/_}
-use lib.ListN.{length-set}
+use Prim.Native.Nat.{_+_, _/_}
+use lib.ListN.{length, set, length-set}
 use Rattle.bag.proofs.Largest.{peaks-cleared}
 use borrow.Author.Needs.{needs}
 use Rattle.bag.proofs.peaks.clear.Statement.{statement}
@@ -33,7 +33,7 @@ mul-of-group-2 : tie.Need-mul-of-group-2
 mul-of-group-2 c = search needs
 
 add-of-group : tie.Need-add-of-group
-add-of-group c = let s = c .before .before .before .before .before in record { fits = omega (arith, s .pre .1 .few, length-set (s .args .places .now) (s .args .v) 0) }
+add-of-group c = let s = c .before .before .before .before .before in record { fits = omega (arith, s .pre .0, s .pre .1 .few, length-set (s .args .places .now) (s .args .v) 0) }
 
 of-group-requires-2 : tie.Need-of-group-requires-2
 of-group-requires-2 c κs =
@@ -49,9 +49,43 @@ mul-heap-2 : tie.Need-mul-heap-2
 mul-heap-2 c = let s = c .before .before .before .before .before .before in record { fits = omega (arith, s .pre .0, s .pre .1 .few, length-set (s .args .places .now) (s .args .v) 0) }
 
 slice-write-heap-2 : tie.Need-slice-write-heap-2
-slice-write-heap-2 c =
-    let s = c .before .before .before .before .before .before in
-    omega (arith, s .pre .0, s .pre .1 .few, s .pre .1 .same, length-set (s .args .places .now) (s .args .v) 0, length-set (s .args .heap .now) (s .args .v / 8) (c .before .before .of-group .result))
+slice-write-heap-2 c = let s = c .before .before .before .before .before .before in omega (arith, s .pre .0, s .pre .1 .few, s .pre .1 .same, length-set (s .args .places .now) (s .args .v) 0, length-set (s .args .heap .now) (s .args .v / 8) (c .before .before .of-group .result))
+
+mul-of-group-3 : tie.Need-mul-of-group-3
+mul-of-group-3 c = let s = c .before .before .before .before .before .before .before in record { fits = omega (arith, s .pre .0, s .pre .1 .few, length-set (s .args .places .now) (s .args .v) 0) }
+
+add-of-group-2 : tie.Need-add-of-group-2
+add-of-group-2 c = let s = c .before .before .before .before .before .before .before in record { fits = omega (arith, s .pre .0, s .pre .1 .few, length-set (s .args .places .now) (s .args .v) 0) }
+
+add-of-group-3 : tie.Need-add-of-group-3
+add-of-group-3 c = let s = c .before .before .before .before .before .before .before in record { fits = omega (arith, s .pre .0, s .pre .1 .few, length-set (s .args .places .now) (s .args .v) 0) }
+
+add-of-group-4 : tie.Need-add-of-group-4
+add-of-group-4 c = let s = c .before .before .before .before .before .before .before in record { fits = omega (arith, s .pre .0, s .pre .1 .few, length-set (s .args .places .now) (s .args .v) 0) }
+
+of-group-requires-3 : tie.Need-of-group-requires-3
+of-group-requires-3 c κs =
+    let s = c .before .before .before .before .before .before .before in
+    let long = length-set (s .args .places .now) (s .args .v) 0 in
+    let low = length-set (s .args .heap .now) (s .args .v / 8) (c .before .before .before .of-group .result) in
+    let high = length-set (set (s .args .heap .now) (s .args .v / 8) (c .before .before .before .of-group .result)) (length (set (s .args .places .now) (s .args .v) 0) / 2 + s .args .v / 64) (c .before .of-group2 .result) in
+    (omega (arith, s .pre .1 .few, s .pre .1 .same, long, low, high), omega (arith, s .pre .1 .few, long), omega (arith, s .pre .0, s .pre .1 .few, long))
+
+add-heap-2 : tie.Need-add-heap-2
+add-heap-2 c = let s = c .before .before .before .before .before .before .before .before in record { fits = omega (arith, s .pre .0, s .pre .1 .few, length-set (s .args .places .now) (s .args .v) 0) }
+
+add-heap-3 : tie.Need-add-heap-3
+add-heap-3 c = let s = c .before .before .before .before .before .before .before .before in record { fits = omega (arith, s .pre .0, s .pre .1 .few, length-set (s .args .places .now) (s .args .v) 0) }
+
+mul-heap-3 : tie.Need-mul-heap-3
+mul-heap-3 c = let s = c .before .before .before .before .before .before .before .before in record { fits = omega (arith, s .pre .0, s .pre .1 .few, length-set (s .args .places .now) (s .args .v) 0) }
+
+slice-write-heap-3 : tie.Need-slice-write-heap-3
+slice-write-heap-3 c =
+    let s = c .before .before .before .before .before .before .before .before in
+    let low = length-set (s .args .heap .now) (s .args .v / 8) (c .before .before .before .before .of-group .result) in
+    let high = length-set (set (s .args .heap .now) (s .args .v / 8) (c .before .before .before .before .of-group .result)) (length (set (s .args .places .now) (s .args .v) 0) / 2 + s .args .v / 64) (c .before .before .of-group2 .result) in
+    omega (arith, s .pre .0, s .pre .1 .few, s .pre .1 .same, length-set (s .args .places .now) (s .args .v) 0, low, high)
 
 same-length : tie.Need-same-length
 same-length c = search needs
@@ -61,8 +95,8 @@ same-length-2 c = search needs
 
 returns : tie.Need-returns
 returns c =
-    let s = c .before .before .before .before .before .before in
-    (refl, peaks-cleared _ _ _ 0 _ _ _ (s .pre .1) (s .pre .0) (length-set (s .args .places .now) (s .args .v) 0) (c .before .before .of-group .ensures) (c .of-group2 .ensures))
+    let s = c .before .before .before .before .before .before .before .before in
+    (refl, peaks-cleared _ _ _ 0 _ _ _ _ (s .pre .1) (s .pre .0) (length-set (s .args .places .now) (s .args .v) 0) (c .before .before .before .before .of-group .ensures) (c .before .before .of-group2 .ensures) (c .of-group3 .ensures))
 
 pub clear-spec : {M : Type 1} → statement M
 clear-spec =
@@ -80,6 +114,15 @@ clear-spec =
     add-heap
     mul-heap-2
     slice-write-heap-2
+    mul-of-group-3
+    add-of-group-2
+    add-of-group-3
+    add-of-group-4
+    of-group-requires-3
+    add-heap-2
+    add-heap-3
+    mul-heap-3
+    slice-write-heap-3
     same-length
     same-length-2
     returns)
