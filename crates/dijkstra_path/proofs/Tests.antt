@@ -1,20 +1,36 @@
--- The tests of the code are the pending bag's.
+-- The tests of the code are the pending bag's, and what they ask is there.
 -- Assumes nothing.
-use mathlib.Core.Path.{_≡_, sym, ap, _∙_}
-use mathlib.Core.Bool.{Bool}
+use mathlib.Core.Path.{_≡_, sym, ap, subst, _∙_}
+use mathlib.Core.Bool.{Bool, false}
+use mathlib.Core.Logic.{_⊎_, inl, inr}
 use mathlib.Core.List.{List}
 use Prim.Native.Nat.{ℕ, _<_}
 use lib.ListN.{length, getD}
-use lib.Ieee.{Float, nan}
+use lib.Ieee.{Float, binary64, nan}
 use Rattle.clean.specs.None.{noneF64}
-use Rattle.float.specs.Dist.{plus64}
+use Rattle.float.specs.Dist.{Dist, plus64}
+use Rattle.float.specs.Cost.{badCost}
+use Rattle.float.specs.Stored.{Stored, none, some}
 use Rattle.float.specs.Cutoff.{past}
 use Rattle.float.specs.Better.{betterThan}
 use Rattle.float.specs.declared.Cutoff.{Cutoff}
 use Rattle.turns.specs.Row.{betterAt}
 use Rattle.clean.proofs.Filled.{no-default}
+use Rattle.float.proofs.Cost.{plus-dist}
 use Rattle.dijkstra_path.specs.Search.{kind64}
 use Rattle.dijkstra_path.proofs.Floats.{better-at}
+
+-- an entry that is blank or a distance, whatever stands for a missing one
+pub entry-stored : (l : List Float) (v : ℕ) → v < length l → (getD l v noneF64 ≡ noneF64) ⊎ Dist binary64 (getD l v noneF64) → Stored (getD l v nan)
+entry-stored l v h e = subst Stored (no-default l v noneF64 nan h) (go e)
+  where
+    go : (getD l v noneF64 ≡ noneF64) ⊎ Dist binary64 (getD l v noneF64) → Stored (getD l v noneF64)
+    go (inl q) = subst Stored (sym q) none
+    go (inr p) = some p
+
+-- the sum that was made is a distance
+pub sum-dist : (d : Float) (b : ℕ) {x : Float} → x ≡ plus64 d b → Dist binary64 d → badCost binary64 b ≡ false → Dist binary64 x
+sum-dist d b e p g = subst (Dist binary64) (sym e) (plus-dist d b p g)
 
 module _ (k : Cutoff) (d : Float) (b : ℕ) {x : Float} (sum : x ≡ plus64 d b) where
   -- past the cutoff, as the sum that was made says

@@ -4,4 +4,5 @@ pub mod Real
 pub mod BitOrder
 pub mod Whole
 pub mod None
+pub mod StoredOver
 pub mod Past

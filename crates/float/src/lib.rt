@@ -2,10 +2,11 @@
 ghost use mathlib.Core.Path.{_≡_};
 ghost use mathlib.Core.Bool.{false};
 ghost use lib.Ieee.{binary64};
-ghost use Rattle.float.specs.Dist.{plus64};
+ghost use Rattle.float.specs.Dist.{Dist, plus64};
 ghost use Rattle.float.specs.Cost.{badCost};
 ghost use Rattle.float.specs.Cutoff.{past};
 ghost use Rattle.float.specs.Better.{betterThan};
+ghost use Rattle.float.specs.Stored.{Stored};
 
 // A cutoff: none, or at a value, which may be any.
 pub enum Cutoff {
@@ -38,9 +39,12 @@ pub fn cuts(cutoff: Cutoff, next: f64) -> bool
     }
 }
 
-// Is the total to be stored over what is there?
+// Is the total to be stored over what is there? The pattern of none is above that of every distance.
+// Shut out: a total that is no distance, and what is neither none nor a distance.
 pub fn better(next: f64, stored: f64) -> bool
+    requires { ⌜ Dist binary64 next ⌝ }
+    requires { ⌜ Stored stored ⌝ }
     ensures { λ r. ⌜ r ≡ betterThan next stored ⌝ }
 {
-    stored == clean::NONE_F64 || next < stored
+    f64::to_bits(next) < f64::to_bits(stored)
 }

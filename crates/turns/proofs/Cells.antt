@@ -2,6 +2,7 @@
 -- Assumes nothing.
 use mathlib.Core.Path.{_≡_, refl, sym, ap, _∙_, subst, fun-ext}
 use mathlib.Core.Bool.{Bool, true}
+use mathlib.Core.Logic.{_⊎_, inl, inr}
 use mathlib.Core.List.{List, [], _∷_}
 use mathlib.Core.Option.{Option, none, some, Option·none-ne-some}
 use Prim.Native.Nat.{ℕ, zero, suc, _-_, _<_}
@@ -102,6 +103,14 @@ module _ {K C : Type 0} (Y : Kind K C) where
       go (no n) =
           ap (λ (z : Option K). cellOf (Y .read (getD ds w (Y .blank))) (predIn (getD ps w noneU32)) (waits z)) (getD-set-other ct v w k none n)
           ∙ sym (upd-there (λ y. cellOf (Y .read (getD ds y (Y .blank))) (predIn (getD ps y noneU32)) (waits (getD ct y none))) v (cellOf (Y .read (getD ds v (Y .blank))) (predIn (getD ps v noneU32)) (waits k)) w n)
+
+-- an entry is blank, or a distance that is stored
+pub entry-is : {K C : Type 0} {Y : Kind K C} {m : ℕ} {M : Memory K} {n : ℕ} → Good Y m M n → (v : ℕ) → (getD (M .dist) v (Y .blank) ≡ Y .blank) ⊎ Y .good (getD (M .dist) v (Y .blank))
+entry-is {K} {Y = Y} {M = M} g v = go (cellsOf Y M v) (g .oks v) (g .tidyD v)
+  where
+    go : (c : Cell K) → OkCell (Y .good) c → getD (M .dist) v (Y .blank) ≡ shown (Y .blank) (distOf c) → (getD (M .dist) v (Y .blank) ≡ Y .blank) ⊎ Y .good (getD (M .dist) v (Y .blank))
+    go out x e = inl e
+    go (has d p b) x e = inr (subst (Y .good) (sym e) x)
 
 -- ---- a store: v has the distance x and the predecessor o, and is pending
 module _ {K C : Type 0} {Y : Kind K C} {ok : K → Type 0} (W : Lawful Y ok) {m : ℕ} {M M′ : Memory K} {n n′ : ℕ} (g : Good Y m M n) (v : ℕ) (inside : v < m) (x : K) (fine : Y .good x) (o : Option ℕ) (back : predIn (shown noneU32 o) ≡ o)

@@ -23,7 +23,7 @@ use Rattle.turns.specs.Kind.{Kind, turnOf}
 use Rattle.turns.specs.Memory.{Memory, cellsOf, Good}
 use Rattle.turns.specs.Row.{betterAt, Safe, Looked, past, kept, stored, Passed, Row, Opens, RowDone}
 use Rattle.turns.proofs.Lawful.{Lawful}
-use Rattle.turns.proofs.Cells.{cells-dist, name-back, stored-cells, stored-good}
+use Rattle.turns.proofs.Cells.{cells-dist, entry-is, name-back, stored-cells, stored-good}
 
 -- the arc at place i as one of the list
 pub arc-here : {C : Type 0} {m : ℕ} {nb : Lists C} {u i v : ℕ} {c : C} → u < m → getD (nb .offsets) u 0 ≤ i → i < getD (nb .offsets) (u + 1) 0 → v ≡ getD (nb .heads) i 0 → ((z : C) → getD (nb .weights) i z ≡ c) → RowArc m nb u v c
@@ -101,6 +101,7 @@ module _ {K C : Type 0} {Y : Kind K C} {ok : K → Type 0} (W : Lawful Y ok) whe
         inB = omega (arith, r .good .longB);
         dist = d-good;
         cost = b;
+        entry = entry-is (r .good) v;
         bag = r .good .bag;
         lower = not-above (r .good) u d v c d-good b;
       }

@@ -3,6 +3,7 @@
 use mathlib.Core.Path.{_≡_}
 use mathlib.Core.Bool.{Bool, true, false}
 use mathlib.Core.Option.{some}
+use mathlib.Core.Logic.{_⊎_}
 use Prim.Native.Nat.{ℕ, _+_, _≤_, _<_}
 use lib.ListN.{length, getD, set}
 use Rattle.rows.specs.Rows.{Lists}
@@ -36,6 +37,7 @@ module _ {K C : Type 0} (Y : Kind K C) where
     pub inB : v < length (M .places)
     pub dist : Y .good d
     pub cost : Y .bad c ≡ false
+    pub entry : (getD (M .dist) v (Y .blank) ≡ Y .blank) ⊎ Y .good (getD (M .dist) v (Y .blank))
     pub bag : Bag (Y .order) (M .heap) (M .places) (M .keys) n
     pub lower : betterAt (Y .plus d c) (getD (M .dist) v (Y .blank)) ≡ true → NotAbove (Y .order) (contentOf (M .places) (M .keys)) v (Y .key (Y .plus d c) v)
 

@@ -6,15 +6,13 @@ use Rattle.dijkstra_path.proofs.look_arc.Tie as tie
 use mathlib.Core.Path.{refl, sym, ap, subst, _∙_}
 use mathlib.Core.Option.{some}
 use lib.ListN.{set}
-use lib.Ieee.{Float, binary64}
+use lib.Ieee.{Float}
 use borrow.Author.Tests.{not-true, not-false}
-use Rattle.float.specs.Dist.{Dist}
-use Rattle.float.proofs.Cost.{plus-dist}
 use Rattle.bag.specs.Floats.{floats}
 use Rattle.bag.specs.Content.{contentOf}
 use Rattle.bag.specs.Bag.{NotAbove}
 use Rattle.turns.specs.Row.{past, kept, stored}
-use Rattle.dijkstra_path.proofs.Tests.{cut-is, better-is}
+use Rattle.dijkstra_path.proofs.Tests.{entry-stored, sum-dist, cut-is, better-is}
 
 plus-requires : tie.Need-plus-requires
 plus-requires c κs = search needs
@@ -32,7 +30,9 @@ slice-read-better : tie.Need-slice-read-better
 slice-read-better c = search needs
 
 better-requires : tie.Need-better-requires
-better-requires c κs = search needs
+better-requires c κs =
+    let s = c .before .before .before .before .before .before .before .before .before in
+    (sum-dist (s .args .d) (s .args .bits) (c .before .before .before .plus .ensures) (s .pre .dist) (s .pre .cost), entry-stored (s .args .dist .now) (s .args .v) (s .pre .inD) (s .pre .entry))
 
 returns-2 : tie.Need-returns-2
 returns-2 c =
@@ -58,7 +58,7 @@ push-or-lower-requires c κs =
         s .pre .inB,
         (
           subst (NotAbove floats (contentOf (s .args .places .now) (s .args .keys .now)) (s .args .v)) (sym (c .before .before .before .before .before .before .before .before .before .before .before .before .before .before .before .before .plus .ensures)) (s .pre .lower b),
-          (subst (Dist binary64) (sym (c .before .before .before .before .before .before .before .before .before .before .before .before .before .before .before .before .plus .ensures)) (plus-dist (s .args .d) (s .args .bits) (s .pre .dist) (s .pre .cost))),
+          sum-dist (s .args .d) (s .args .bits) (c .before .before .before .before .before .before .before .before .before .before .before .before .before .before .before .before .plus .ensures) (s .pre .dist) (s .pre .cost),
         ),
       ),
     )
