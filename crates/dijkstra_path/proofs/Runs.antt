@@ -11,8 +11,13 @@ use lib.Seq.{drop-at, length-take-le}
 use Rattle.clean.specs.Fill.{filled}
 use Rattle.clean.specs.None.{noneF64, noneU32}
 use Rattle.clean.proofs.Filled.{filled-length, filled-rest, settle}
+use Rattle.float.specs.Cutoff.{limitOf, past}
 use Rattle.float.specs.declared.Cutoff.{Cutoff}
+use Rattle.float.specs.declared.Cutoff.the-variants.{At}
+use Rattle.float.proofs.Past.{past-limit}
 use Rattle.rows.specs.Rows.{Lists}
+use Rattle.rows.specs.RowArc.{RowArc}
+use Rattle.pending.proofs.Cutoff64.{same-cutoff64}
 use Rattle.turns.specs.Memory.{Memory, memoryOf, Fresh}
 use Rattle.turns.specs.Searched.{Searched}
 use Rattle.dijkstra_path.specs.Search.{kind64}
@@ -75,8 +80,8 @@ module _ {m : ℕ} {M : Memory Float} (w : Roomy m M) {dist : List Float} {preds
   keptH = filled-keeps m 0 (w .heap) heap-is
 
   -- the parts are ready for a search
-  pub part-fresh : (k : Cutoff) → m ≤ 1024 → Fresh (kind64 k) m (memoryOf (take m dist) (take m preds) (take m heap) (take m places) (take m (M .keys)))
-  part-fresh k few = record {
+  pub part-fresh : (l : Float) → m ≤ 1024 → Fresh (kind64 l) m (memoryOf (take m dist) (take m preds) (take m heap) (take m places) (take m (M .keys)))
+  part-fresh l few = record {
     few = few;
     dist = ap (take m) dist-is ∙ filled-part m noneF64 (M .dist);
     preds = ap (take m) preds-is ∙ filled-part m noneU32 (M .preds);
@@ -86,14 +91,14 @@ module _ {m : ℕ} {M : Memory Float} (w : Roomy m M) {dist : List Float} {preds
   }
 
   -- what a search on them leaves of the lists
-  pub ran : (k : Cutoff) {s : ℕ} {nb : Lists ℕ} {no takes : ℕ} (d : List Float) (p h i : List ℕ) (q : List Float) → length d ≡ length (take m dist) → length p ≡ length (take m preds) → length h ≡ length (take m heap) → length i ≡ length (take m places) → length q ≡ length (take m (M .keys))
-      → Searched (kind64 k) m none s nb (memoryOf d p h i q) no takes → Ran k m s nb M (memoryOf (d ++ drop m dist) (p ++ drop m preds) (h ++ drop m heap) (i ++ drop m places) (q ++ drop m (M .keys))) no
-  ran k d p h i q ld lp lh li lq z =
+  pub ran : (k : Cutoff) {l : Float} → l ≡ limitOf k → {s : ℕ} {nb : Lists ℕ} {no takes : ℕ} (d : List Float) (p h i : List ℕ) (q : List Float) → length d ≡ length (take m dist) → length p ≡ length (take m preds) → length h ≡ length (take m heap) → length i ≡ length (take m places) → length q ≡ length (take m (M .keys))
+      → Searched (kind64 l) m none s nb (memoryOf d p h i q) no takes → Ran k m s nb M (memoryOf (d ++ drop m dist) (p ++ drop m preds) (h ++ drop m heap) (i ++ drop m places) (q ++ drop m (M .keys))) no
+  ran k {l} limit-is {s} {nb} d p h i q ld lp lh li lq z =
       let rD = back-rest m d (w .dist) keptD ld in
       let rP = back-rest m p (w .preds) keptP lp in
       record {
         end = z .end;
-        run = z .ends;
+        run = same-cutoff64 (At l) k (λ x a. ap (λ (y : Float). past (At y) x) limit-is ∙ past-limit k x) s (RowArc m nb) (z .end) (z .ends);
         is = z .is;
         dist = λ e. settle noneF64 (w .dist) (rD .long) (λ v l. back-at m dist d noneF64 v (omega (arith, w .dist, keptD .long)) ld l ∙ z .shows e .dist v) (rD .rest);
         preds = λ e. settle noneU32 (w .preds) (rP .long) (λ v l. back-at m preds p noneU32 v (omega (arith, w .preds, keptP .long)) lp l ∙ z .shows e .preds v) (rP .rest);

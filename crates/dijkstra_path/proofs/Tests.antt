@@ -13,7 +13,7 @@ use Rattle.float.specs.Cost.{badCost}
 use Rattle.float.specs.Stored.{Stored, none, some}
 use Rattle.float.specs.Cutoff.{past}
 use Rattle.float.specs.Better.{betterThan}
-use Rattle.float.specs.declared.Cutoff.{Cutoff}
+use Rattle.float.specs.declared.Cutoff.the-variants.{At}
 use Rattle.turns.specs.Row.{betterAt}
 use Rattle.clean.proofs.Filled.{no-default}
 use Rattle.float.proofs.Cost.{plus-dist}
@@ -32,11 +32,11 @@ entry-stored l v h e = subst Stored (no-default l v noneF64 nan h) (go e)
 pub sum-dist : (d : Float) (b : ℕ) {x : Float} → x ≡ plus64 d b → Dist binary64 d → badCost binary64 b ≡ false → Dist binary64 x
 sum-dist d b e p g = subst (Dist binary64) (sym e) (plus-dist d b p g)
 
-module _ (k : Cutoff) (d : Float) (b : ℕ) {x : Float} (sum : x ≡ plus64 d b) where
+module _ (limit : Float) (d : Float) (b : ℕ) {x : Float} (sum : x ≡ plus64 d b) where
   -- past the cutoff, as the sum that was made says
-  pub cut-is : {s w : Bool} → s ≡ past k x → s ≡ w → past k (plus64 d b) ≡ w
-  cut-is e f = ap (past k) (sym sum) ∙ sym e ∙ f
+  pub cut-is : {s w : Bool} → s ≡ past (At limit) x → s ≡ w → past (At limit) (plus64 d b) ≡ w
+  cut-is e f = ap (past (At limit)) (sym sum) ∙ sym e ∙ f
 
   -- better than what stands there
-  pub better-is : {s w : Bool} (l : List Float) (v : ℕ) → v < length l → s ≡ betterThan x (getD l v nan) → s ≡ w → betterAt (kind64 k) (plus64 d b) (getD l v noneF64) ≡ w
-  better-is l v h e f = ap (λ (z : Float). betterAt (kind64 k) (plus64 d b) z) (no-default l v noneF64 nan h) ∙ sym (better-at k (plus64 d b) (getD l v nan)) ∙ ap (λ (z : Float). betterThan z (getD l v nan)) (sym sum) ∙ sym e ∙ f
+  pub better-is : {s w : Bool} (l : List Float) (v : ℕ) → v < length l → s ≡ betterThan x (getD l v nan) → s ≡ w → betterAt (kind64 limit) (plus64 d b) (getD l v noneF64) ≡ w
+  better-is l v h e f = ap (λ (z : Float). betterAt (kind64 limit) (plus64 d b) z) (no-default l v noneF64 nan h) ∙ sym (better-at limit (plus64 d b) (getD l v nan)) ∙ ap (λ (z : Float). betterThan z (getD l v nan)) (sym sum) ∙ sym e ∙ f

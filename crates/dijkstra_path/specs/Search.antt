@@ -7,7 +7,7 @@ use Rattle.clean.specs.None.{noneF64}
 use Rattle.float.specs.Dist.{Dist, zero64, plus64}
 use Rattle.float.specs.Cost.{badCost}
 use Rattle.float.specs.Cutoff.{past}
-use Rattle.float.specs.declared.Cutoff.{Cutoff}
+use Rattle.float.specs.declared.Cutoff.the-variants.{At}
 use Rattle.bag.specs.Floats.{floats}
 use Rattle.bag.specs.Order.{pick}
 use Rattle.turns.specs.Kind.{Kind}
@@ -16,6 +16,6 @@ use Rattle.turns.specs.Kind.{Kind}
 unfoldable pub read64 : Float → Option Float
 read64 x = pick (eq x noneF64) none (some x)
 
--- a search with a cutoff: its keys are the distances, its costs are patterns
-abbrev pub kind64 : Cutoff → Kind Float ℕ
-kind64 k = record { order = floats; zero = zero64; plus = plus64; key = λ d v. d; bad = badCost binary64; cut = past k; blank = noneF64; read = read64; good = Dist binary64 }
+-- a search with a cutoff at a limit: its keys are the distances, its costs are patterns
+abbrev pub kind64 : Float → Kind Float ℕ
+kind64 limit = record { order = floats; zero = zero64; plus = plus64; key = λ d v. d; bad = badCost binary64; cut = past (At limit); blank = noneF64; read = read64; good = Dist binary64 }

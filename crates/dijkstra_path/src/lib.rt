@@ -47,7 +47,7 @@ fn name(preds: &mut [u32], v: usize, u: u32)
 
 // One arc to v, whose cost is good, looked at from u at the distance d. Gives how many pairs are pending then.
 fn look_arc(
-    cutoff: float::Cutoff,
+    limit: f64,
     u: usize,
     d: f64,
     v: usize,
@@ -59,11 +59,11 @@ fn look_arc(
     places: &mut [usize],
     keys: &mut [f64],
 ) -> usize
-    requires { ⌜ Safe (kind64 cutoff) u d v bits size (memoryOf (now dist) (now preds) (now heap) (now places) (now keys)) ⌝ }
-    ensures { λ r. ⌜ Looked (kind64 cutoff) u d v bits size (memoryOf (now (dist .entry)) (now (preds .entry)) (now (heap .entry)) (now (places .entry)) (now (keys .entry))) (memoryOf (now (dist .exit)) (now (preds .exit)) (now (heap .exit)) (now (places .exit)) (now (keys .exit))) r ⌝ }
+    requires { ⌜ Safe (kind64 limit) u d v bits size (memoryOf (now dist) (now preds) (now heap) (now places) (now keys)) ⌝ }
+    ensures { λ r. ⌜ Looked (kind64 limit) u d v bits size (memoryOf (now (dist .entry)) (now (preds .entry)) (now (heap .entry)) (now (places .entry)) (now (keys .entry))) (memoryOf (now (dist .exit)) (now (preds .exit)) (now (heap .exit)) (now (places .exit)) (now (keys .exit))) r ⌝ }
 {
     let next = float::plus(d, bits);
-    if float::cuts(cutoff, next) {
+    if float::cuts(limit, next) {
         return size;
     }
     if !float::better(next, dist[v]) {
@@ -77,7 +77,7 @@ fn look_arc(
 // Every arc of the row of u, which was taken from the bag.
 fn look_row(
     m: usize,
-    cutoff: float::Cutoff,
+    limit: f64,
     u: usize,
     waiting: usize,
     offsets: &[usize],
@@ -89,8 +89,8 @@ fn look_row(
     places: &mut [usize],
     keys: &mut [f64],
 ) -> Turn
-    requires { ⌜ Opens (kind64 cutoff) m (listsOf (now offsets) (now heads) (now weights)) u waiting (memoryOf (now dist) (now preds) (now heap) (now places) (now keys)) ⌝ }
-    ensures { λ r. ⌜ RowDone (kind64 cutoff) m (listsOf (now (offsets .entry)) (now (heads .entry)) (now (weights .entry))) u (memoryOf (now (dist .entry)) (now (preds .entry)) (now (heap .entry)) (now (places .entry)) (now (keys .entry))) (memoryOf (now (dist .exit)) (now (preds .exit)) (now (heap .exit)) (now (places .exit)) (now (keys .exit))) (r .bad) (r .size) ⌝ }
+    requires { ⌜ Opens (kind64 limit) m (listsOf (now offsets) (now heads) (now weights)) u waiting (memoryOf (now dist) (now preds) (now heap) (now places) (now keys)) ⌝ }
+    ensures { λ r. ⌜ RowDone (kind64 limit) m (listsOf (now (offsets .entry)) (now (heads .entry)) (now (weights .entry))) u (memoryOf (now (dist .entry)) (now (preds .entry)) (now (heap .entry)) (now (places .entry)) (now (keys .entry))) (memoryOf (now (dist .exit)) (now (preds .exit)) (now (heap .exit)) (now (places .exit)) (now (keys .exit))) (r .bad) (r .size) ⌝ }
 {
     let d = dist[u];
     let end = offsets[u + 1];
@@ -105,7 +105,7 @@ fn look_row(
             };
         }
         let v = heads[i] as usize;
-        size = look_arc(cutoff, u, d, v, bits, size, dist, preds, heap, places, keys);
+        size = look_arc(limit, u, d, v, bits, size, dist, preds, heap, places, keys);
         i += 1;
     }
     Turn {
@@ -116,7 +116,7 @@ fn look_row(
 
 // The source alone, pending. Gives how many pairs are pending then: one.
 fn start(
-    cutoff: float::Cutoff,
+    limit: f64,
     source: usize,
     dist: &mut [f64],
     preds: &mut [u32],
@@ -124,9 +124,9 @@ fn start(
     places: &mut [usize],
     keys: &mut [f64],
 ) -> usize
-    requires { ⌜ Fresh (kind64 cutoff) (length (now places)) (memoryOf (now dist) (now preds) (now heap) (now places) (now keys)) ⌝ }
+    requires { ⌜ Fresh (kind64 limit) (length (now places)) (memoryOf (now dist) (now preds) (now heap) (now places) (now keys)) ⌝ }
     requires { ⌜ source < length (now places) ⌝ }
-    ensures { λ r. ⌜ Started (kind64 cutoff) source (memoryOf (now (dist .entry)) (now (preds .entry)) (now (heap .entry)) (now (places .entry)) (now (keys .entry))) (memoryOf (now (dist .exit)) (now (preds .exit)) (now (heap .exit)) (now (places .exit)) (now (keys .exit))) r ⌝ }
+    ensures { λ r. ⌜ Started (kind64 limit) source (memoryOf (now (dist .entry)) (now (preds .entry)) (now (heap .entry)) (now (places .entry)) (now (keys .entry))) (memoryOf (now (dist .exit)) (now (preds .exit)) (now (heap .exit)) (now (places .exit)) (now (keys .exit))) r ⌝ }
 {
     store(dist, source, 0.0);
     name(preds, source, clean::NONE_U32);
@@ -137,7 +137,7 @@ fn start(
 fn search_f64(
     m: usize,
     source: usize,
-    cutoff: float::Cutoff,
+    limit: f64,
     offsets: &[usize],
     heads: &[u16],
     weights: &[u64],
@@ -149,17 +149,17 @@ fn search_f64(
 ) -> Found
     requires { ⌜ Sound m (listsOf (now offsets) (now heads) (now weights)) ⌝ }
     requires { ⌜ source < m ⌝ }
-    requires { ⌜ Fresh (kind64 cutoff) m (memoryOf (now dist) (now preds) (now heap) (now places) (now keys)) ⌝ }
-    ensures { λ r. ⌜ Searched (kind64 cutoff) m none source (listsOf (now (offsets .entry)) (now (heads .entry)) (now (weights .entry))) (memoryOf (now (dist .exit)) (now (preds .exit)) (now (heap .exit)) (now (places .exit)) (now (keys .exit))) (r .number) (r .takes) ⌝ }
+    requires { ⌜ Fresh (kind64 limit) m (memoryOf (now dist) (now preds) (now heap) (now places) (now keys)) ⌝ }
+    ensures { λ r. ⌜ Searched (kind64 limit) m none source (listsOf (now (offsets .entry)) (now (heads .entry)) (now (weights .entry))) (memoryOf (now (dist .exit)) (now (preds .exit)) (now (heap .exit)) (now (places .exit)) (now (keys .exit))) (r .number) (r .takes) ⌝ }
 {
-    let mut size: usize = start(cutoff, source, dist, preds, heap, places, keys);
+    let mut size: usize = start(limit, source, dist, preds, heap, places, keys);
     let mut takes: usize = 0;
     while 0 < size {
         let u = bag::floats::take_least(heap, places, keys, size);
         takes += 1;
         let t = look_row(
             m,
-            cutoff,
+            limit,
             u,
             size - 1,
             offsets,
@@ -289,7 +289,7 @@ fn prepare(m: usize, dist: &mut [f64], preds: &mut [u32], heap: &mut [usize], pl
     clean::clear_usize(places, m);
 }
 
-// The search on the part used of each list.
+// The search on the part used of each list. The cutoff's value is read off once, not for each arc.
 fn run(
     m: usize,
     source: usize,
@@ -308,11 +308,12 @@ fn run(
     requires { ⌜ Roomy m (memoryOf (now dist) (now preds) (now heap) (now places) (now keys)) ⌝ }
     ensures { λ r. ⌜ Ran cutoff m source (listsOf (now (offsets .entry)) (now (heads .entry)) (now (weights .entry))) (memoryOf (now (dist .entry)) (now (preds .entry)) (now (heap .entry)) (now (places .entry)) (now (keys .entry))) (memoryOf (now (dist .exit)) (now (preds .exit)) (now (heap .exit)) (now (places .exit)) (now (keys .exit))) r ⌝ }
 {
+    let limit = float::limit(cutoff);
     prepare(m, dist, preds, heap, places);
     let found = search_f64(
         m,
         source,
-        cutoff,
+        limit,
         offsets,
         heads,
         weights,

@@ -7,7 +7,7 @@ use native.Mathlib.Nat.{zero-mul, zero-add}
 use lib.Dec.{T, ltb}
 use lib.Ieee.{Float, nan, inf, fin, binary64, up, down, lt, fits, ofBits}
 use Rattle.float.specs.Dist.{Dist, clear, zero64}
-use Rattle.float.specs.Cutoff.{past}
+use Rattle.float.specs.Cutoff.{limitOf, past}
 use Rattle.float.specs.declared.Cutoff.{Cutoff}
 use Rattle.float.specs.declared.Cutoff.the-variants.{None, At}
 use Rattle.float.proofs.Cost.{zero-dist, zero-least}
@@ -42,6 +42,12 @@ unfolding past lt
 past-infinity nan = refl
 past-infinity (inf s) = refl
 past-infinity (fin s m e) = refl
+
+-- so every cutoff is one at a value
+pub past-limit : (k : Cutoff) (x : Float) → past (At (limitOf k)) x ≡ past k x
+unfolding limitOf
+past-limit None x = past-infinity x ∙ sym (past-none x)
+past-limit (At c) x = refl
 
 -- everything is cut
 pub past-below : (c x : Float) → T (fits binary64 c) → Dist binary64 x → lt c zero64 ≡ true → past (At c) x ≡ true

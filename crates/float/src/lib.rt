@@ -4,7 +4,8 @@ ghost use mathlib.Core.Bool.{false};
 ghost use lib.Ieee.{binary64};
 ghost use Rattle.float.specs.Dist.{Dist, plus64};
 ghost use Rattle.float.specs.Cost.{badCost};
-ghost use Rattle.float.specs.Cutoff.{past};
+ghost use Rattle.float.specs.Cutoff.{limitOf, past};
+ghost use Rattle.float.specs.declared.Cutoff.the-variants.{At};
 ghost use Rattle.float.specs.Better.{betterThan};
 ghost use Rattle.float.specs.Stored.{Stored};
 
@@ -29,14 +30,21 @@ pub fn plus(d: f64, bits: u64) -> f64
     d + f64::from_bits(bits)
 }
 
-// Is the total past the cutoff?
-pub fn cuts(cutoff: Cutoff, next: f64) -> bool
-    ensures { λ r. ⌜ r ≡ past cutoff next ⌝ }
+// The value that totals are held to: +infinity without a cutoff, which no total is past.
+pub fn limit(cutoff: Cutoff) -> f64
+    ensures { λ r. ⌜ r ≡ limitOf cutoff ⌝ }
 {
     match cutoff {
-        Cutoff::None => false,
-        Cutoff::At(limit) => next > limit,
+        Cutoff::None => f64::from_bits(0x7ff0_0000_0000_0000),
+        Cutoff::At(value) => value,
     }
+}
+
+// Is the total past the cutoff at that value?
+pub fn cuts(limit: f64, next: f64) -> bool
+    ensures { λ r. ⌜ r ≡ past (At limit) next ⌝ }
+{
+    next > limit
 }
 
 // Is the total to be stored over what is there? The pattern of none is above that of every distance.

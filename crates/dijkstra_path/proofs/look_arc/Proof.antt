@@ -21,7 +21,7 @@ cuts-requires : tie.Need-cuts-requires
 cuts-requires c κs = search needs
 
 returns : tie.Need-returns
-returns c = let s = c .before .before .before .before .before .before .before .before in past (cut-is (s .args .cutoff) (s .args .d) (s .args .bits) (c .before .before .plus .ensures) (c .before .cuts .ensures) (c .if1 .taken)) refl refl
+returns c = let s = c .before .before .before .before .before .before .before .before in past (cut-is (s .args .limit) (s .args .d) (s .args .bits) (c .before .before .plus .ensures) (c .before .cuts .ensures) (c .if1 .taken)) refl refl
 
 mul-better : tie.Need-mul-better
 mul-better c = search needs
@@ -37,8 +37,8 @@ better-requires c κs =
 returns-2 : tie.Need-returns-2
 returns-2 c =
     let s = c .before .before .before .before .before .before .before .before .before .before .before in
-    kept (cut-is (s .args .cutoff) (s .args .d) (s .args .bits) (c .before .before .before .before .before .plus .ensures) (c .before .before .before .before .cuts .ensures) (c .before .before .before .if1 .left))
-    (better-is (s .args .cutoff) (s .args .d) (s .args .bits) (c .before .before .before .before .before .plus .ensures) (s .args .dist .now) (s .args .v) (s .pre .inD) (c .before .better .ensures) (not-true _ (c .if2 .taken))) refl refl
+    kept (cut-is (s .args .limit) (s .args .d) (s .args .bits) (c .before .before .before .before .before .plus .ensures) (c .before .before .before .before .cuts .ensures) (c .before .before .before .if1 .left))
+    (better-is (s .args .limit) (s .args .d) (s .args .bits) (c .before .before .before .before .before .plus .ensures) (s .args .dist .now) (s .args .v) (s .pre .inD) (c .before .better .ensures) (not-true _ (c .if2 .taken))) refl refl
 
 store-requires : tie.Need-store-requires
 store-requires c κs = search needs
@@ -52,7 +52,7 @@ name-requires c κs = search needs
 push-or-lower-requires : tie.Need-push-or-lower-requires
 push-or-lower-requires c κs =
     let s = c .before .before .before .before .before .before .before .before .before .before .before .before .before .before .before .before .before .before .before .before .before .before in
-    let b = better-is (s .args .cutoff) (s .args .d) (s .args .bits) (c .before .before .before .before .before .before .before .before .before .before .before .before .before .before .before .before .plus .ensures) (s .args .dist .now) (s .args .v) (s .pre .inD) (c .before .before .before .before .before .before .before .before .before .before .before .before .better .ensures) (not-false _ (c .before .before .before .before .before .before .before .before .before .before .before .if2 .left)) in (
+    let b = better-is (s .args .limit) (s .args .d) (s .args .bits) (c .before .before .before .before .before .before .before .before .before .before .before .before .before .before .before .before .plus .ensures) (s .args .dist .now) (s .args .v) (s .pre .inD) (c .before .before .before .before .before .before .before .before .before .before .before .before .better .ensures) (not-false _ (c .before .before .before .before .before .before .before .before .before .before .before .if2 .left)) in (
       s .pre .bag,
       (
         s .pre .inB,
@@ -81,8 +81,8 @@ same-length-5 c = search needs
 returns-3 : tie.Need-returns-3
 returns-3 c =
     let s = c .before .before .before .before .before .before .before .before .before .before .before .before .before .before .before .before .before .before .before .before .before .before .before .before .before .before .before .before .before in
-    stored (cut-is (s .args .cutoff) (s .args .d) (s .args .bits) (c .before .before .before .before .before .before .before .before .before .before .before .before .before .before .before .before .before .before .before .before .before .before .before .plus .ensures) (c .before .before .before .before .before .before .before .before .before .before .before .before .before .before .before .before .before .before .before .before .before .before .cuts .ensures) (c .before .before .before .before .before .before .before .before .before .before .before .before .before .before .before .before .before .before .before .before .before .if1 .left))
-    (better-is (s .args .cutoff) (s .args .d) (s .args .bits) (c .before .before .before .before .before .before .before .before .before .before .before .before .before .before .before .before .before .before .before .before .before .before .before .plus .ensures) (s .args .dist .now) (s .args .v) (s .pre .inD) (c .before .before .before .before .before .before .before .before .before .before .before .before .before .before .before .before .before .before .before .better .ensures) (not-false _ (c .before .before .before .before .before .before .before .before .before .before .before .before .before .before .before .before .before .before .if2 .left)))
+    stored (cut-is (s .args .limit) (s .args .d) (s .args .bits) (c .before .before .before .before .before .before .before .before .before .before .before .before .before .before .before .before .before .before .before .before .before .before .before .plus .ensures) (c .before .before .before .before .before .before .before .before .before .before .before .before .before .before .before .before .before .before .before .before .before .before .cuts .ensures) (c .before .before .before .before .before .before .before .before .before .before .before .before .before .before .before .before .before .before .before .before .before .if1 .left))
+    (better-is (s .args .limit) (s .args .d) (s .args .bits) (c .before .before .before .before .before .before .before .before .before .before .before .before .before .before .before .before .before .before .before .before .before .before .before .plus .ensures) (s .args .dist .now) (s .args .v) (s .pre .inD) (c .before .before .before .before .before .before .before .before .before .before .before .before .before .before .before .before .before .before .before .better .ensures) (not-false _ (c .before .before .before .before .before .before .before .before .before .before .before .before .before .before .before .before .before .before .if2 .left)))
     (c .before .before .before .before .before .before .before .before .before .before .before .before .before .before .before .before .store .ensures ∙ ap (set (s .args .dist .now) (s .args .v)) (c .before .before .before .before .before .before .before .before .before .before .before .before .before .before .before .before .before .before .before .before .before .before .before .plus .ensures))
     (c .before .before .before .before .before .before .before .before .before .before .before .before .name .ensures)
     (c .before .before .before .before .before .before .push-or-lower .ensures .0)

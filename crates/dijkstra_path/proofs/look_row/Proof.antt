@@ -22,11 +22,11 @@ use Rattle.dijkstra_path.proofs.look_arc.Reads as look-arc-reads
 use Rattle.float.proofs.bad_cost.Reads as bad-cost-reads
 
 abbrev Inv-loop : tie.InvT-loop
-Inv-loop m cutoff u waiting offsets heads weights dist₀ preds₀ heap₀ places₀ keys₀ d end size₀ i₀ dist preds heap places keys size i =
-    Row (kind64 cutoff) m (listsOf offsets heads weights) u d i size (memoryOf dist₀ preds₀ heap₀ places₀ keys₀) (memoryOf dist preds heap places keys)
+Inv-loop m limit u waiting offsets heads weights dist₀ preds₀ heap₀ places₀ keys₀ d end size₀ i₀ dist preds heap places keys size i =
+    Row (kind64 limit) m (listsOf offsets heads weights) u d i size (memoryOf dist₀ preds₀ heap₀ places₀ keys₀) (memoryOf dist preds heap places keys)
 
 abbrev μ-loop : tie.MeasureT-loop
-μ-loop m cutoff u waiting offsets heads weights dist₀ preds₀ heap₀ places₀ keys₀ d end size₀ i₀ dist preds heap places keys size i =
+μ-loop m limit u waiting offsets heads weights dist₀ preds₀ heap₀ places₀ keys₀ d end size₀ i₀ dist preds heap places keys size i =
     end - i
 
 -- the entry read is u's, whatever stands for a missing one
@@ -55,7 +55,7 @@ shared-slice-read-i : tie.Need-shared-slice-read-i Inv-loop μ-loop
 shared-slice-read-i c = search needs
 
 loop-holds : tie.Need-loop-holds Inv-loop μ-loop
-loop-holds c = row-first (lawful (c .before .before .before .before .before .before .before .before .before .before .before .args .cutoff)) (c .before .before .before .before .before .before .before .before .before .before .before .pre .good)
+loop-holds c = row-first (lawful (c .before .before .before .before .before .before .before .before .before .before .before .args .limit)) (c .before .before .before .before .before .before .before .before .before .before .before .pre .good)
 
 mul-bits : tie.Need-mul-bits Inv-loop μ-loop
 mul-bits c = let s = c .before .before .before .before .before .before .before .before .before .before .before .before .before in let h = s .pre .rows .weights (s .args .u) (s .pre .row) in search (needs, h)
@@ -84,7 +84,7 @@ same-length-5 c = search needs
 returns : tie.Need-returns Inv-loop μ-loop
 returns c =
     let s = c .before .before .before .before .before .before .before .before .before .before .before .before .before .before .before .before in
-    row-stops (lawful (s .args .cutoff)) (s .pre) (entry s) (c .before .before .before .before .loop .inv) (c .before .before .before .loop-test .taken) refl (cost-here 0 (s .pre .rows) (s .pre .row) (c .before .before .before .loop-test .taken)) (sym (c .before .bad-cost .ensures) ∙ c .if1 .taken) refl
+    row-stops (lawful (s .args .limit)) (s .pre) (entry s) (c .before .before .before .before .loop .inv) (c .before .before .before .loop-test .taken) refl (cost-here 0 (s .pre .rows) (s .pre .row) (c .before .before .before .loop-test .taken)) (sym (c .before .bad-cost .ensures) ∙ c .if1 .taken) refl
 
 mul-v : tie.Need-mul-v Inv-loop μ-loop
 mul-v c = let s = c .before .before .before .before .before .before .before .before .before .before .before .before .before .before .before .before in let h = s .pre .rows .heads (s .args .u) (s .pre .row) in search (needs, h)
@@ -98,7 +98,7 @@ cast-v c = omega (arith, c .shared-slice-known7 .given (c .before .before .befor
 look-arc-requires : tie.Need-look-arc-requires Inv-loop μ-loop
 look-arc-requires c κs =
     let s = c .before .before .before .before .before .before .before .before .before .before .before .before .before .before .before .before .before .before .before .before .before .before in
-    row-safe (lawful (s .args .cutoff)) (s .pre) (entry s) (c .before .before .before .before .before .before .before .before .before .before .loop .inv) (c .before .before .before .before .before .before .before .before .before .loop-test .taken) refl (cost-here 0 (s .pre .rows) (s .pre .row) (c .before .before .before .before .before .before .before .before .before .loop-test .taken)) (sym (c .before .before .before .before .before .before .before .bad-cost .ensures) ∙ c .before .before .before .before .before .before .if1 .left)
+    row-safe (lawful (s .args .limit)) (s .pre) (entry s) (c .before .before .before .before .before .before .before .before .before .before .loop .inv) (c .before .before .before .before .before .before .before .before .before .loop-test .taken) refl (cost-here 0 (s .pre .rows) (s .pre .row) (c .before .before .before .before .before .before .before .before .before .loop-test .taken)) (sym (c .before .before .before .before .before .before .before .bad-cost .ensures) ∙ c .before .before .before .before .before .before .if1 .left)
 
 add-i : tie.Need-add-i Inv-loop μ-loop
 add-i c = omega (arith, c .before .before .before .before .before .before .before .before .before .before .before .before .before .before .before .before .before .before .before .before .loop-test .taken, c .before .before .before .before .before .before .before .before .before .before .before .before .before .before .before .before .before .before .before .before .before .before .before .shared-slice-known4 .given (c .before .before .before .before .before .before .before .before .before .before .before .before .before .before .before .before .before .before .before .before .before .before .before .before .before .before .before .before .before .before .before .before .before .args .u + 1))
@@ -109,7 +109,7 @@ loop-less c = search needs
 loop-again : tie.Need-loop-again Inv-loop μ-loop
 loop-again c =
     let s = c .before .before .before .before .before .before .before .before .before .before .before .before .before .before .before .before .before .before .before .before .before .before .before .before .before .before .before .before .before .before .before .before .before in
-    row-next (lawful (s .args .cutoff)) (s .pre) (entry s) (c .before .before .before .before .before .before .before .before .before .before .before .before .before .before .before .before .before .before .before .before .before .loop .inv) (c .before .before .before .before .before .before .before .before .before .before .before .before .before .before .before .before .before .before .before .before .loop-test .taken) refl (cost-here 0 (s .pre .rows) (s .pre .row) (c .before .before .before .before .before .before .before .before .before .before .before .before .before .before .before .before .before .before .before .before .loop-test .taken)) (sym (c .before .before .before .before .before .before .before .before .before .before .before .before .before .before .before .before .before .before .bad-cost .ensures) ∙ c .before .before .before .before .before .before .before .before .before .before .before .before .before .before .before .before .before .if1 .left) (c .before .before .before .before .before .before .before .before .before .before .look-arc .ensures) (c .before .before .before .before .before .before .before .before .before .before .look-arc .kept .1 .1 .1 .1 .1 .1 .1 .1 .1 .0)
+    row-next (lawful (s .args .limit)) (s .pre) (entry s) (c .before .before .before .before .before .before .before .before .before .before .before .before .before .before .before .before .before .before .before .before .before .loop .inv) (c .before .before .before .before .before .before .before .before .before .before .before .before .before .before .before .before .before .before .before .before .loop-test .taken) refl (cost-here 0 (s .pre .rows) (s .pre .row) (c .before .before .before .before .before .before .before .before .before .before .before .before .before .before .before .before .before .before .before .before .loop-test .taken)) (sym (c .before .before .before .before .before .before .before .before .before .before .before .before .before .before .before .before .before .before .bad-cost .ensures) ∙ c .before .before .before .before .before .before .before .before .before .before .before .before .before .before .before .before .before .if1 .left) (c .before .before .before .before .before .before .before .before .before .before .look-arc .ensures) (c .before .before .before .before .before .before .before .before .before .before .look-arc .kept .1 .1 .1 .1 .1 .1 .1 .1 .1 .0)
 
 same-length-6 : tie.Need-same-length-6 Inv-loop μ-loop
 same-length-6 c = search needs
@@ -127,7 +127,7 @@ same-length-10 : tie.Need-same-length-10 Inv-loop μ-loop
 same-length-10 c = search needs
 
 returns-2 : tie.Need-returns-2 Inv-loop μ-loop
-returns-2 c = let s = c .before .before .before .before .before .before .before .before .before .before .before .before .before in row-ends (lawful (s .args .cutoff)) (s .pre .row) (entry s) (c .before .loop .inv) (c .loop-test .left) refl
+returns-2 c = let s = c .before .before .before .before .before .before .before .before .before .before .before .before .before in row-ends (lawful (s .args .limit)) (s .pre .row) (entry s) (c .before .loop .inv) (c .loop-test .left) refl
 
 pub look-row-spec : {M : Type 1} → statement M
 look-row-spec =
