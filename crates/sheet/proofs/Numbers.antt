@@ -1,5 +1,5 @@
 -- Which numbers an engine can give on a map that was read: never 1 or 2, since the map and the buffers are large enough and the links lie within the map; 5 never,
--- since a heuristic of 0 is fair. What is left is what 01's table gives each engine.
+-- since a heuristic of 0 is fair. What is left are the numbers of specs/Numbers.antt.
 -- Assumes nothing.
 use mathlib.Core.Path.{_≡_, refl, ap, _∙_}
 use mathlib.Core.Bool.{Bool, true, false, not, _||_}
@@ -33,6 +33,7 @@ use Rattle.dijkstra_path.specs.Promise as path
 use Rattle.answers.specs.Answers.{zeros, zerosI}
 use Rattle.sheet.specs.Sheet as sheet
 use Rattle.sheet.specs.Sheet.{readFile, intMap, floatMap, Answer}
+use Rattle.sheet.specs.Numbers.{Possible}
 use Rattle.sheet.proofs.Ends.{Ended, broken, asks, file-ends}
 use Rattle.sheet.proofs.Good.{file-good}
 
@@ -153,17 +154,6 @@ float-kind : (e : ℕ) (f : Bool) → engineMay e f ≡ true → e ≡ 7 → f �
 unfolding engineMay
 float-kind e true m h = refl
 float-kind e false m h = absurd (clash m (ap (λ (n : ℕ). engineMay n false) h ∙ refl))
-
--- ---- what 01's table gives each engine
-abbrev pub Possible : {s : State} {engine source target : ℕ} {text : List ℕ} → Answer s engine source target text → Type 0
-Possible (sheet.dijkstra e x) = In (x .number) (0 ∷ 3 ∷ 6 ∷ [])
-Possible (sheet.bellmanFord e x) = In (x .number) (0 ∷ 7 ∷ [])
-Possible (sheet.aStar e x) = In (x .number) (0 ∷ 3 ∷ 4 ∷ 6 ∷ [])
-Possible (sheet.floydWarshall e x) = In (x .number) (0 ∷ 7 ∷ [])
-Possible (sheet.johnson e x) = In (x .number) (0 ∷ 7 ∷ [])
-Possible (sheet.hops e f x) = x .number ≡ 0
-Possible (sheet.hops64 e f x) = x .number ≡ 0
-Possible (sheet.dijkstraPath e x) = In (x .number) (0 ∷ 3 ∷ 6 ∷ [])
 
 module _ (file : List ℕ) (ask : readFile file .walk .stage ≡ 4) where
   -- the map's kind has the engine
