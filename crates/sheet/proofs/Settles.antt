@@ -1,85 +1,58 @@
 -- The sheet is settled: two texts that are allowed for a file are equal, since each engine's promise settles its answer. And engines look at no more of the ask than 01 says.
 -- Assumes nothing.
-use mathlib.Core.Path.{_≡_, refl, sym, ap, _∙_}
-use mathlib.Core.List.{List}
+use mathlib.Core.Path.{_≡_, refl, sym, ap, _∙_, subst}
+use mathlib.Core.Bool.{true, false}
+use mathlib.Core.List.{List, [], _∷_}
 use Prim.Native.Nat.{ℕ, _≤_, _<_}
 use native.Mathlib.Omega.{arith}
-use lib.ListN.{length}
+use lib.ListN.{length, getD}
 use Rattle.whole.proofs.Cases.{clash, other}
 use Rattle.mapfile.specs.Load.{State, stateOf, brokenAt, startWalk}
 use Rattle.mapfile.proofs.Loads.{overlong}
-use Rattle.answers.specs.Answers.{Written, zeros, zerosI}
+use Rattle.answers.specs.Answers.{Written, zeros, zerosI, Dijkstra, BellmanFord, AStar, FloydWarshall, Johnson, Hops, DijkstraPath}
 use Rattle.answers.proofs.Settles.{written-one, dijkstra-one, bellman-ford-one, a-star-one, floyd-warshall-one, johnson-one, hops-one, dijkstra-path-one}
 use Rattle.text.specs.Text.{soundText, badText}
-use Rattle.sheet.specs.Sheet.{readFile, Answer, dijkstra, bellmanFord, aStar, floydWarshall, johnson, hops, hops64, dijkstraPath, Sound, Sheet, bad, sound}
+use Rattle.sheet.specs.Sheet.{readFile, intMap, floatMap, Answer, dijkstra, bellmanFord, aStar, floydWarshall, johnson, hops, hops64, dijkstraPath, Sound, Sheet, bad, sound}
+
+-- what each engine says of its text, by the engine's number; of a number that is none, nothing holds
+module _ (s : State) (source target : ℕ) (t : List ℕ) where
+  abbrev Says : ℕ → Type 0
+  Says n =
+      getD
+      (⊥
+      ∷ Dijkstra (intMap s) source t
+      ∷ BellmanFord (intMap s) source t
+      ∷ AStar (intMap s) source target t
+      ∷ FloydWarshall (intMap s) t
+      ∷ Johnson (intMap s) t
+      ∷ ((s .walk .float ≡ false → Hops (intMap s) t) × (s .walk .float ≡ true → Hops (floatMap s) t))
+      ∷ DijkstraPath (floatMap s) source t
+      ∷ [])
+      n
+      ⊥
 
 module _ {s : State} {engine source target : ℕ} where
-  -- the answer
+  -- an answer of engine n is what that engine says
+  answer-of : {t : List ℕ} {n : ℕ} → Answer s engine source target t → engine ≡ n → Says s source target t n
+  answer-of {t} (dijkstra e x) p = subst (Says s source target t) (sym e ∙ p) x
+  answer-of {t} (bellmanFord e x) p = subst (Says s source target t) (sym e ∙ p) x
+  answer-of {t} (aStar e x) p = subst (Says s source target t) (sym e ∙ p) x
+  answer-of {t} (floydWarshall e x) p = subst (Says s source target t) (sym e ∙ p) x
+  answer-of {t} (johnson e x) p = subst (Says s source target t) (sym e ∙ p) x
+  answer-of {t} (hops e f x) p = subst (Says s source target t) (sym e ∙ p) ((λ _. x), λ g. absurd (clash g f))
+  answer-of {t} (hops64 e f x) p = subst (Says s source target t) (sym e ∙ p) ((λ g. absurd (clash f g)), λ _. x)
+  answer-of {t} (dijkstraPath e x) p = subst (Says s source target t) (sym e ∙ p) x
+
+  -- so two answers are of one engine, which settles its text
   pub answer-one : {t t′ : List ℕ} → Answer s engine source target t → Answer s engine source target t′ → t ≡ t′
-  answer-one (dijkstra e x) (dijkstra e′ y) = dijkstra-one x y
-  answer-one (dijkstra e x) (bellmanFord e′ y) = other 1 2 e e′ (λ z. omega arith)
-  answer-one (dijkstra e x) (aStar e′ y) = other 1 3 e e′ (λ z. omega arith)
-  answer-one (dijkstra e x) (floydWarshall e′ y) = other 1 4 e e′ (λ z. omega arith)
-  answer-one (dijkstra e x) (johnson e′ y) = other 1 5 e e′ (λ z. omega arith)
-  answer-one (dijkstra e x) (hops e′ f′ y) = other 1 6 e e′ (λ z. omega arith)
-  answer-one (dijkstra e x) (hops64 e′ f′ y) = other 1 6 e e′ (λ z. omega arith)
-  answer-one (dijkstra e x) (dijkstraPath e′ y) = other 1 7 e e′ (λ z. omega arith)
-  answer-one (bellmanFord e x) (dijkstra e′ y) = other 2 1 e e′ (λ z. omega arith)
-  answer-one (bellmanFord e x) (bellmanFord e′ y) = bellman-ford-one x y
-  answer-one (bellmanFord e x) (aStar e′ y) = other 2 3 e e′ (λ z. omega arith)
-  answer-one (bellmanFord e x) (floydWarshall e′ y) = other 2 4 e e′ (λ z. omega arith)
-  answer-one (bellmanFord e x) (johnson e′ y) = other 2 5 e e′ (λ z. omega arith)
-  answer-one (bellmanFord e x) (hops e′ f′ y) = other 2 6 e e′ (λ z. omega arith)
-  answer-one (bellmanFord e x) (hops64 e′ f′ y) = other 2 6 e e′ (λ z. omega arith)
-  answer-one (bellmanFord e x) (dijkstraPath e′ y) = other 2 7 e e′ (λ z. omega arith)
-  answer-one (aStar e x) (dijkstra e′ y) = other 3 1 e e′ (λ z. omega arith)
-  answer-one (aStar e x) (bellmanFord e′ y) = other 3 2 e e′ (λ z. omega arith)
-  answer-one (aStar e x) (aStar e′ y) = a-star-one x y
-  answer-one (aStar e x) (floydWarshall e′ y) = other 3 4 e e′ (λ z. omega arith)
-  answer-one (aStar e x) (johnson e′ y) = other 3 5 e e′ (λ z. omega arith)
-  answer-one (aStar e x) (hops e′ f′ y) = other 3 6 e e′ (λ z. omega arith)
-  answer-one (aStar e x) (hops64 e′ f′ y) = other 3 6 e e′ (λ z. omega arith)
-  answer-one (aStar e x) (dijkstraPath e′ y) = other 3 7 e e′ (λ z. omega arith)
-  answer-one (floydWarshall e x) (dijkstra e′ y) = other 4 1 e e′ (λ z. omega arith)
-  answer-one (floydWarshall e x) (bellmanFord e′ y) = other 4 2 e e′ (λ z. omega arith)
-  answer-one (floydWarshall e x) (aStar e′ y) = other 4 3 e e′ (λ z. omega arith)
-  answer-one (floydWarshall e x) (floydWarshall e′ y) = floyd-warshall-one x y
-  answer-one (floydWarshall e x) (johnson e′ y) = other 4 5 e e′ (λ z. omega arith)
-  answer-one (floydWarshall e x) (hops e′ f′ y) = other 4 6 e e′ (λ z. omega arith)
-  answer-one (floydWarshall e x) (hops64 e′ f′ y) = other 4 6 e e′ (λ z. omega arith)
-  answer-one (floydWarshall e x) (dijkstraPath e′ y) = other 4 7 e e′ (λ z. omega arith)
-  answer-one (johnson e x) (dijkstra e′ y) = other 5 1 e e′ (λ z. omega arith)
-  answer-one (johnson e x) (bellmanFord e′ y) = other 5 2 e e′ (λ z. omega arith)
-  answer-one (johnson e x) (aStar e′ y) = other 5 3 e e′ (λ z. omega arith)
-  answer-one (johnson e x) (floydWarshall e′ y) = other 5 4 e e′ (λ z. omega arith)
-  answer-one (johnson e x) (johnson e′ y) = johnson-one x y
-  answer-one (johnson e x) (hops e′ f′ y) = other 5 6 e e′ (λ z. omega arith)
-  answer-one (johnson e x) (hops64 e′ f′ y) = other 5 6 e e′ (λ z. omega arith)
-  answer-one (johnson e x) (dijkstraPath e′ y) = other 5 7 e e′ (λ z. omega arith)
-  answer-one (hops e f x) (dijkstra e′ y) = other 6 1 e e′ (λ z. omega arith)
-  answer-one (hops e f x) (bellmanFord e′ y) = other 6 2 e e′ (λ z. omega arith)
-  answer-one (hops e f x) (aStar e′ y) = other 6 3 e e′ (λ z. omega arith)
-  answer-one (hops e f x) (floydWarshall e′ y) = other 6 4 e e′ (λ z. omega arith)
-  answer-one (hops e f x) (johnson e′ y) = other 6 5 e e′ (λ z. omega arith)
-  answer-one (hops e f x) (hops e′ f′ y) = hops-one x y
-  answer-one (hops e f x) (hops64 e′ f′ y) = absurd (clash f′ f)
-  answer-one (hops e f x) (dijkstraPath e′ y) = other 6 7 e e′ (λ z. omega arith)
-  answer-one (hops64 e f x) (dijkstra e′ y) = other 6 1 e e′ (λ z. omega arith)
-  answer-one (hops64 e f x) (bellmanFord e′ y) = other 6 2 e e′ (λ z. omega arith)
-  answer-one (hops64 e f x) (aStar e′ y) = other 6 3 e e′ (λ z. omega arith)
-  answer-one (hops64 e f x) (floydWarshall e′ y) = other 6 4 e e′ (λ z. omega arith)
-  answer-one (hops64 e f x) (johnson e′ y) = other 6 5 e e′ (λ z. omega arith)
-  answer-one (hops64 e f x) (hops e′ f′ y) = absurd (clash f f′)
-  answer-one (hops64 e f x) (hops64 e′ f′ y) = hops-one x y
-  answer-one (hops64 e f x) (dijkstraPath e′ y) = other 6 7 e e′ (λ z. omega arith)
-  answer-one (dijkstraPath e x) (dijkstra e′ y) = other 7 1 e e′ (λ z. omega arith)
-  answer-one (dijkstraPath e x) (bellmanFord e′ y) = other 7 2 e e′ (λ z. omega arith)
-  answer-one (dijkstraPath e x) (aStar e′ y) = other 7 3 e e′ (λ z. omega arith)
-  answer-one (dijkstraPath e x) (floydWarshall e′ y) = other 7 4 e e′ (λ z. omega arith)
-  answer-one (dijkstraPath e x) (johnson e′ y) = other 7 5 e e′ (λ z. omega arith)
-  answer-one (dijkstraPath e x) (hops e′ f′ y) = other 7 6 e e′ (λ z. omega arith)
-  answer-one (dijkstraPath e x) (hops64 e′ f′ y) = other 7 6 e e′ (λ z. omega arith)
-  answer-one (dijkstraPath e x) (dijkstraPath e′ y) = dijkstra-path-one x y
+  answer-one (dijkstra e x) y = dijkstra-one x (answer-of y e)
+  answer-one (bellmanFord e x) y = bellman-ford-one x (answer-of y e)
+  answer-one (aStar e x) y = a-star-one x (answer-of y e)
+  answer-one (floydWarshall e x) y = floyd-warshall-one x (answer-of y e)
+  answer-one (johnson e x) y = johnson-one x (answer-of y e)
+  answer-one (hops e f x) y = hops-one x (answer-of y e .0 f)
+  answer-one (hops64 e f x) y = hops-one x (answer-of y e .1 f)
+  answer-one (dijkstraPath e x) y = dijkstra-path-one x (answer-of y e)
 
 -- the lines of a sound file
 pub sound-one : {s : State} {t t′ : List ℕ} → Sound s t → Sound s t′ → t ≡ t′
