@@ -1,3 +1,4 @@
+pub mod Back
 pub mod Sums
 pub mod Over
 pub mod Counts

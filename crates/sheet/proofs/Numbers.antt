@@ -18,7 +18,7 @@ use Rattle.table.proofs.Laws.{whole, whole-of-no, all-of-no}
 use Rattle.net.specs.Net.{Net, wholeNet, insideNet, arcRoom, sizeOf, width, has}
 use Rattle.net.proofs.Nodes.{width-most}
 use Rattle.rows.specs.Scratch.{hasRoom}
-use Rattle.mapfile.specs.Load.{State, engineMay}
+use Rattle.mapfile.specs.Load.{engineMay}
 use Rattle.mapfile.proofs.Loads.{loaded-bounded}
 use Rattle.float.specs.declared.Cutoff.{Cutoff}
 use Rattle.pending.specs.Setting.{End}
