@@ -81,9 +81,9 @@ module _ (m n : ℕ) (d : Bool) (marks xs ys bs os : List ℕ) (s : ℕ) (b : Bu
           let q = open-kept (netOf64 m n d marks xs ys bs os) inside r in
           record {
             bounded = limits .indices;
-            offsets = omega (arith, l .offsets, q .longO);
-            heads = omega (arith, l .heads, q .longH, is);
-            weights = omega (arith, l .weights, q .longW, is);
+            offsets = omega (arith, l .offsets, q .offsets .long);
+            heads = omega (arith, l .heads, q .heads .long, is);
+            weights = omega (arith, l .weights, q .weights .long, is);
             lists = record {
               dist = omega (arith, l .lists .dist, v .restD .long);
               preds = omega (arith, l .lists .preds, v .restP .long);
@@ -107,9 +107,9 @@ module _ (m n : ℕ) (d : Bool) (marks xs ys bs os : List ℕ) (s : ℕ) (b : Bu
         unfolding zero64
         wiped x p =
             let t = open-kept (netOf64 m n d marks xs ys bs os) inside r in
-            let eo = o-is ∙ filled-same (m + 1) 0 (nb .offsets) (b .offsets) (t .restO) in
-            let eh = h-is ∙ ap (λ (j : ℕ). filled j 0 (nb .heads)) is ∙ filled-same (arcRoom d n) 0 (nb .heads) (b .heads) (t .restH) in
-            let ew = w-is ∙ ap (λ (j : ℕ). filled j 0 (nb .weights)) is ∙ filled-same (arcRoom d n) 0 (nb .weights) (b .weights) (t .restW) in
+            let eo = o-is ∙ filled-same (m + 1) 0 (nb .offsets) (b .offsets) (t .offsets .rest) in
+            let eh = h-is ∙ ap (λ (j : ℕ). filled j 0 (nb .heads)) is ∙ filled-same (arcRoom d n) 0 (nb .heads) (b .heads) (t .heads .rest) in
+            let ew = w-is ∙ ap (λ (j : ℕ). filled j 0 (nb .weights)) is ∙ filled-same (arcRoom d n) 0 (nb .weights) (b .weights) (t .weights .rest) in
             let eq = q-is ∙ filled-same m 0 (M .heap) (b .heap) (v .restH .rest) in
             let ei = i-is ∙ filled-same m 0 (M .places) (b .places) (v .restB .rest) in
             let ey = y-is ∙ filled-same m (ofBits binary64 0) (M .keys) (b .keys) (v .restK .rest) in

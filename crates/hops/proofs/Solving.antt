@@ -13,7 +13,9 @@ use Rattle.net.proofs.Nodes.{node-marked, width-most}
 use Rattle.net.proofs.Same.{leads-below}
 use Rattle.rows.specs.Rows.{units, endLists, arcsEnds, Room, Rows}
 use Rattle.rows.specs.RowArc.{Sound}
-use Rattle.rows.proofs.Graph.{Kept, kept, arc-of, row-of, sound}
+use Rattle.rows.specs.Kept.{KeptLists}
+use Rattle.rows.proofs.Graph.{arc-of, row-of, sound}
+use Rattle.rows.proofs.Kept.{rows-kept}
 use Rattle.rows.proofs.Maps.{links-room, room-of}
 use Rattle.hops.specs.Steps.{Entry}
 use Rattle.hops.specs.Search.{RowLeads, CanFill, Filled}
@@ -65,8 +67,8 @@ module _ {m n : ℕ} {d : Bool} {marks xs ys : List ℕ} {b : Buffers} (ripe : R
     pub fit-of : Sound m (endLists os hs)
     fit-of = sound d (take n (ends xs ys)) r (ripe .ready .indices) list-room (λ u v c a. leads-below g (ripe .inside) u v (c, a) .1)
 
-    rests : Kept m (sizeOf g) (endLists (b .offsets) (b .heads)) (endLists os hs)
-    rests = kept r (sizeOf g) (links-room d n (ends xs ys))
+    rests : KeptLists m (sizeOf g) (endLists (b .offsets) (b .heads)) (endLists os hs)
+    rests = rows-kept (links-room d n (ends xs ys)) r
 
     module _ {ns : List ℕ} (is : ns ≡ nodesOf g ++ drop (width g) (b .nodes)) {p : ℕ} (many : p ≡ width g) {l′ q′ x′ : List ℕ} (f : Filled m p p (RowLeads m os hs) ns (b .labels) (b .queue) (b .matrix) l′ q′ x′) where
       full : Filled m (width g) (width g) (RowLeads m os hs) ns (b .labels) (b .queue) (b .matrix) l′ q′ x′
@@ -89,12 +91,12 @@ module _ {m n : ℕ} {d : Bool} {marks xs ys : List ℕ} {b : Buffers} (ripe : R
         count = many;
         nodes = is;
         matrix = hops-of;
-        longO = r .longO;
-        longH = r .longH;
+        longO = rests .offsets .long;
+        longH = rests .heads .long;
         longL = full .rest .longL;
         longQ = full .rest .longQ;
-        offsets = rests .restO;
-        heads = rests .restH;
+        offsets = rests .offsets .rest;
+        heads = rests .heads .rest;
         labels = full .rest .labels;
         queue = full .rest .queue;
       }

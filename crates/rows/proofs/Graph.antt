@@ -7,22 +7,13 @@ use Prim.Native.Nat.{ℕ, suc, _+_, _-_, _≤_, _<_}
 use native.Mathlib.Numerals.{add-one}
 use native.Mathlib.Omega.{arith}
 use lib.ListN.{length, getD, take, drop, List·getD-map}
-use lib.Seq.{getD-take, getD-drop, drop-drop}
+use lib.Seq.{getD-take, getD-drop}
 use Rattle.table.specs.Links.{Link, linkOf, row, starts, arcs, Arc}
 use Rattle.clean.proofs.Filled.{no-default}
 use Rattle.rows.specs.Rows.{Lists, Room, Rows}
 use Rattle.rows.specs.RowArc.{RowArc, Sound}
 use Rattle.rows.proofs.Segments.{starts-le}
 use Rattle.rows.proofs.Members.{arc-row}
-
--- the lengths stay, and so does what is past m + 1 offsets and past a places
-pub record Kept {C : Type 0} (m a : ℕ) (s₀ s : Lists C) : Type 0 where
-  pub longO : length (s .offsets) ≡ length (s₀ .offsets)
-  pub longH : length (s .heads) ≡ length (s₀ .heads)
-  pub longW : length (s .weights) ≡ length (s₀ .weights)
-  pub restO : drop (m + 1) (s .offsets) ≡ drop (m + 1) (s₀ .offsets)
-  pub restH : drop a (s .heads) ≡ drop a (s₀ .heads)
-  pub restW : drop a (s .weights) ≡ drop a (s₀ .weights)
 
 -- what a list holds at a place of a row
 read : {X C : Type 0} (f : Link C → X) (A : List (Link C)) (u j : ℕ) (l : List X) (o : Link C) → j < length (row u A) → take (starts A (suc u) - starts A u) (drop (starts A u) l) ≡ map f (row u A) → getD l (starts A u + j) (f o) ≡ f (getD (row u A) j o)
@@ -61,21 +52,6 @@ module _ {C : Type 0} {m : ℕ} {s₀ nb : Lists C} where
     rows-inside w u h =
         let k = r .start (u + 1) (omega arith) in
         (omega (arith, k, starts-le A (u + 1), w .heads, r .longH), omega (arith, k, starts-le A (u + 1), w .weights, r .longW))
-
-    past : {X : Type 0} (a : ℕ) (l l′ : List X) → length A ≤ a → drop (starts A m) l ≡ drop (starts A m) l′ → drop a l ≡ drop a l′
-    past a l l′ h e =
-        let k : starts A m + (a - starts A m) ≡ a = omega (arith, starts-le A m) in
-        ap (λ (n : ℕ). drop n l) (sym k) ∙ (sym (drop-drop (a - starts A m) (starts A m) l) ∙ (ap (drop (a - starts A m)) e ∙ (drop-drop (a - starts A m) (starts A m) l′ ∙ ap (λ (n : ℕ). drop n l′) k)))
-
-    pub kept : (a : ℕ) → length A ≤ a → Kept m a s₀ nb
-    kept a h = record {
-      longO = r .longO;
-      longH = r .longH;
-      longW = r .longW;
-      restO = r .restO;
-      restH = past a (nb .heads) (s₀ .heads) h (r .restH);
-      restW = past a (nb .weights) (s₀ .weights) h (r .restW);
-    }
 
   module _ (d : Bool) (ls : List (Link C)) (r : Rows (arcs d ls) m s₀ nb) where
     abbrev A : List (Link C)

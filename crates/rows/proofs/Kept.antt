@@ -1,22 +1,22 @@
 -- Slices of which only the part used changed: one change after another, by a store, by filling, by a neighbour list that was made; and wiped.
 -- Assumes nothing.
-use mathlib.Core.Path.{_≡_, refl, ap, _∙_}
+use mathlib.Core.Path.{_≡_, refl, sym, ap, _∙_}
 use mathlib.Core.Bool.{true, false}
 use mathlib.Core.List.{List}
-use Prim.Native.Nat.{ℕ, _+_, _≤_, _<_}
+use Prim.Native.Nat.{ℕ, _+_, _-_, _≤_, _<_}
 use native.Mathlib.Omega.{arith}
 use borrow.Author.Tests.{leb-true, le-leb, lt-leb}
 use lib.Dec.{leb}
 use lib.ListN.{length, drop, set, length-set}
-use lib.Seq.{drop-set-lt}
+use lib.Seq.{drop-set-lt, drop-drop}
 use Rattle.whole.proofs.Cases.{and-left, and-right}
 use Rattle.clean.specs.Fill.{filled}
 use Rattle.clean.proofs.Filled.{filled-length, filled-rest, filled-twice}
-use Rattle.table.specs.Links.{Link}
-use Rattle.rows.specs.Rows.{Lists, listsOf, Room, Rows}
+use Rattle.table.specs.Links.{Link, starts}
+use Rattle.rows.specs.Rows.{Lists, Room, Rows}
 use Rattle.rows.specs.Scratch.{hasRoom, wiped}
 use Rattle.rows.specs.Kept.{Kept, KeptLists, Needs}
-use Rattle.rows.proofs.Graph.{kept}
+use Rattle.rows.proofs.Segments.{starts-le}
 
 module _ {A : Type 0} where
   -- nothing changed, and one change after another
@@ -25,6 +25,13 @@ module _ {A : Type 0} where
 
   pub kept-more : {n : ℕ} {a b c : List A} → Kept n a b → Kept n b c → Kept n a c
   kept-more p q = record { long = q .long ∙ p .long; rest = q .rest ∙ p .rest }
+
+  -- with more of it in the part used
+  pub kept-wider : {n m : ℕ} {a b : List A} → n ≤ m → Kept n a b → Kept m a b
+  kept-wider {n} {m} {a} {b} h k =
+      let e : n + (m - n) ≡ m = omega arith in
+      let by : (l : List A) → drop m l ≡ drop (m - n) (drop n l) = λ l. ap (λ (i : ℕ). drop i l) (sym e) ∙ sym (drop-drop (m - n) n l) in
+      record { long = k .long; rest = by b ∙ (ap (drop (m - n)) (k .rest) ∙ sym (by a)) }
 
   -- a store, and a part filled
   pub kept-set : {n : ℕ} (l : List A) (i : ℕ) (x : A) → i < n → Kept n l (set l i x)
@@ -81,5 +88,9 @@ module _ {C : Type 0} where
 
       pub rows-kept : {s t : Lists C} → Rows A m s t → KeptLists m a s t
       rows-kept r =
-          let k = kept r a few in
-          record { offsets = record { long = k .longO; rest = k .restO }; heads = record { long = k .longH; rest = k .restH }; weights = record { long = k .longW; rest = k .restW } }
+          let h : starts A m ≤ a = omega (arith, starts-le A m) in
+          record {
+            offsets = record { long = r .longO; rest = r .restO };
+            heads = kept-wider h (record { long = r .longH; rest = r .restH });
+            weights = kept-wider h (record { long = r .longW; rest = r .restW });
+          }

@@ -22,7 +22,7 @@ use Rattle.whole.specs.Zed.{P, N}
 use Rattle.rows.specs.Rows.{Lists, openLinks, arcsEnds, Ready, Room, Rows, Small}
 use Rattle.rows.specs.RowArc.{RowArc, Sound}
 use Rattle.rows.specs.Kept.{KeptLists, Needs}
-use Rattle.rows.proofs.Graph.{Kept, kept, arc-of, row-of, sound}
+use Rattle.rows.proofs.Graph.{arc-of, row-of, sound}
 use Rattle.rows.proofs.Kept.{needs-room, rows-kept}
 
 -- a places hold the arcs of n links
@@ -140,8 +140,8 @@ module _ (g : Net FloatCost) (i : insideNet g ≡ true) {s₀ nb : Lists ℕ} (r
   pub open-sound : g .bound ≤ 1024 → Room (arcs (g .directed) (openLinks (linksOf g))) (g .bound) s₀ → Sound (g .bound) nb
   open-sound h w = sound (g .directed) (openLinks (linksOf g)) r h w (λ u v x a. open-below g i u v x (open-out (g .directed) (linksOf g) u v x a) .1)
 
-  pub open-kept : Kept (g .bound) (sizeOf g) s₀ nb
-  open-kept = kept r (sizeOf g) (open-room (g .directed) (g .count) (g .table))
+  pub open-kept : KeptLists (g .bound) (sizeOf g) s₀ nb
+  open-kept = rows-kept (open-room (g .directed) (g .count) (g .table)) r
 
 -- the arcs of any cost, of either kind of map
 module _ {C : Type 0} (d : Bool) (u v : ℕ) where
@@ -174,5 +174,5 @@ module _ {C : Type 0} (m n : ℕ) (d : Bool) (marks xs ys : List ℕ) (cs : List
   pub leads-sound : m ≤ 1024 → Room (arcsEnds d n xs ys) m s₀ → Sound m nb
   leads-sound q w = sound d (take n (ends xs ys)) r q w (λ u v c a. below u v (ends-out d u v xs ys cs n h a) .1)
 
-  pub leads-kept : Kept m (arcRoom d n) s₀ nb
-  leads-kept = kept r (arcRoom d n) (links-room d n (ends xs ys))
+  pub leads-kept : KeptLists m (arcRoom d n) s₀ nb
+  leads-kept = rows-kept (links-room d n (ends xs ys)) r
