@@ -1,26 +1,25 @@
 -- The promise of `dijkstra` settles the answer and each buffer, goes by the arcs alone, and gives each number exactly when its condition holds.
 -- Assumes nothing.
-use mathlib.Core.Path.{_≡_, refl, sym, ap, _∙_, subst}
+use mathlib.Core.Path.{_≡_, refl, sym, ap, _∙_}
 use mathlib.Core.Bool.{Bool, true, false}
 use mathlib.Core.Logic.{_⊎_, inl, inr, _↔_}
 use Prim.Native.Nat.{ℕ, _+_, _*_, _≤_, _<_, _^_}
 use native.Mathlib.Omega.{arith}
 use lib.IntN.{ℤ, pos}
 use lib.Signed.{ltZ, _≤ℤ_, _<ℤ_}
-use lib.ListN.{length}
 use Rattle.whole.specs.Zed.{_⊕_, P, N, zed, sum, lt-yes, lt-no}
 use Rattle.whole.proofs.Cases.{clash, other}
 use Rattle.clean.specs.Fill.{Settled}
 use Rattle.clean.specs.None.{noneI64}
-use Rattle.clean.proofs.Filled.{settled-one, settled-over}
+use Rattle.clean.proofs.Filled.{settled-one}
 use Rattle.walks.specs.Walk.{Walk, stay, step, Least, NoNeg, Entry}
 use Rattle.walks.proofs.Walk.{arc, join}
-use Rattle.walks.proofs.Cheap.{least-within}
-use Rattle.walks.proofs.Over.{entry-one, entry-over}
-use Rattle.net.specs.Net.{Net, ArcOf, insideNet, has, nodesOf, sizeOf, SameNet}
-use Rattle.net.proofs.Bounds.{Whole, width-small}
-use Rattle.net.proofs.Nodes.{present-in}
-use Rattle.net.proofs.Same.{arc-has, arc-turned, same-inside, same-size}
+use Rattle.walks.proofs.Over.{entry-one}
+use Rattle.net.specs.Net.{Net, ArcOf, insideNet, has, sizeOf, SameNet}
+use Rattle.net.proofs.Bounds.{Whole}
+use Rattle.net.proofs.Same.{arc-turned, same-inside, same-size}
+use Rattle.net.proofs.Totals.{total-within, arc-over, arc-back, entries-over}
+use Rattle.net.proofs.Tests.{Test, fails, holds, test-one, both-one}
 use Rattle.rows.specs.Kept.{Kept}
 use Rattle.rows.proofs.Kept.{kept-none, kept-filled}
 use Rattle.pending.specs.Reach.{BadInReach}
@@ -30,37 +29,28 @@ use Rattle.dijkstra.proofs.Refusals.{enough-passed}
 use Rattle.dijkstra.proofs.Answers.{KeptScratch, scratch-same, scratch-wiped}
 
 -- ---- two answers that the promise allows are equal
+module _ (g : Net ℤ) (s : ℕ) (b : Buffers) where
+  -- after the tests: a stop, or done
+  abbrev After : Buffers → ℕ → Type 0
+  After e n = ((n ≡ 6) × (e ≡ blank g b) × BadInReach (ArcOf g) s) ⊎ ((n ≡ 0) × (BadInReach (ArcOf g) s → ⊥) × Settled (g .bound) (Entry (ArcOf g) s) (b .dist) (e .dist) × (e .scratch ≡ clear g b))
+
+  after-one : {e e′ : Buffers} {no no′ : ℕ} → After e no → After e′ no′ → (no ≡ no′) × (e ≡ e′)
+  after-one (inl x) (inl y) = (x .0 ∙ sym (y .0), x .1 ∙ sym (y .1))
+  after-one (inl x) (inr y) = absurd (y .1 (x .2))
+  after-one (inr x) (inl y) = absurd (x .1 (y .2))
+  after-one (inr x) (inr y) = (x .0 ∙ sym (y .0), λ j. record { dist = settled-one (pos 0) (λ v k x y. entry-one) (x .2) (y .2) j; scratch = (x .3 ∙ sym (y .3)) j })
+
+  tests : {e : Buffers} {no : ℕ} → Promise g s b e no → Test (enough g b) ((no ≡ 1) × (e ≡ b)) (Test (insideNet g) ((no ≡ 2) × (e ≡ b)) (Test (has g s) ((no ≡ 3) × (e ≡ b)) (After e no)))
+  tests (short n p q) = fails p (n, q)
+  tests (outside n p i q) = holds p (fails i (n, q))
+  tests (unknown n p i h q) = holds p (holds i (fails h (n, q)))
+  tests (bad n p i h w q) = holds p (holds i (holds h (inl (n, q, w))))
+  tests (done n p i h w d q) = holds p (holds i (holds h (inr (n, w, d, q))))
+
 module _ {g : Net ℤ} {s : ℕ} {b : Buffers} where
   -- the number and every buffer
   pub promise-one : {e e′ : Buffers} {no no′ : ℕ} → Promise g s b e no → Promise g s b e′ no′ → (no ≡ no′) × (e ≡ e′)
-  promise-one (short n p q) (short n′ p′ q′) = (n ∙ sym n′, q ∙ sym q′)
-  promise-one (short n p q) (outside n′ p′ i′ q′) = absurd (clash p′ p)
-  promise-one (short n p q) (unknown n′ p′ i′ h′ q′) = absurd (clash p′ p)
-  promise-one (short n p q) (bad n′ p′ i′ h′ w′ q′) = absurd (clash p′ p)
-  promise-one (short n p q) (done n′ p′ i′ h′ w′ d′ q′) = absurd (clash p′ p)
-  promise-one (outside n p i q) (short n′ p′ q′) = absurd (clash p p′)
-  promise-one (outside n p i q) (outside n′ p′ i′ q′) = (n ∙ sym n′, q ∙ sym q′)
-  promise-one (outside n p i q) (unknown n′ p′ i′ h′ q′) = absurd (clash i′ i)
-  promise-one (outside n p i q) (bad n′ p′ i′ h′ w′ q′) = absurd (clash i′ i)
-  promise-one (outside n p i q) (done n′ p′ i′ h′ w′ d′ q′) = absurd (clash i′ i)
-  promise-one (unknown n p i h q) (short n′ p′ q′) = absurd (clash p p′)
-  promise-one (unknown n p i h q) (outside n′ p′ i′ q′) = absurd (clash i i′)
-  promise-one (unknown n p i h q) (unknown n′ p′ i′ h′ q′) = (n ∙ sym n′, q ∙ sym q′)
-  promise-one (unknown n p i h q) (bad n′ p′ i′ h′ w′ q′) = absurd (clash h′ h)
-  promise-one (unknown n p i h q) (done n′ p′ i′ h′ w′ d′ q′) = absurd (clash h′ h)
-  promise-one (bad n p i h w q) (short n′ p′ q′) = absurd (clash p p′)
-  promise-one (bad n p i h w q) (outside n′ p′ i′ q′) = absurd (clash i i′)
-  promise-one (bad n p i h w q) (unknown n′ p′ i′ h′ q′) = absurd (clash h h′)
-  promise-one (bad n p i h w q) (bad n′ p′ i′ h′ w′ q′) = (n ∙ sym n′, q ∙ sym q′)
-  promise-one (bad n p i h w q) (done n′ p′ i′ h′ w′ d′ q′) = absurd (w′ w)
-  promise-one (done n p i h w d q) (short n′ p′ q′) = absurd (clash p p′)
-  promise-one (done n p i h w d q) (outside n′ p′ i′ q′) = absurd (clash i i′)
-  promise-one (done n p i h w d q) (unknown n′ p′ i′ h′ q′) = absurd (clash h h′)
-  promise-one (done n p i h w d q) (bad n′ p′ i′ h′ w′ q′) = absurd (w w′)
-  promise-one (done n p i h w d q) (done n′ p′ i′ h′ w′ d′ q′) =
-      let e = settled-one (pos 0) (λ v k x y. entry-one) d d′ in
-      let r = q ∙ sym q′ in
-      (n ∙ sym n′, λ j. record { dist = e j; scratch = r j })
+  promise-one p q = test-one both-one (test-one both-one (test-one both-one (after-one g s b))) (tests g s b p) (tests g s b q)
 
   -- ---- only the part used of each buffer changes
   pub promise-kept : {e : Buffers} {no : ℕ} → Promise g s b e no → Kept (g .bound) (b .dist) (e .dist) × KeptScratch (g .bound) (sizeOf g) (b .scratch) (e .scratch)
@@ -102,12 +92,6 @@ module _ {g : Net ℤ} {s : ℕ} {b : Buffers} where
 
 -- ---- the promise goes by the arcs: maps that no question can tell apart get the same answers
 module _ {g g′ : Net ℤ} (same : SameNet g g′) where
-  over : (u v : ℕ) (c : ℤ) → ArcOf g u v c → ArcOf g′ u v c
-  over u v c = same .arcs u v c .0
-
-  back : (u v : ℕ) (c : ℤ) → ArcOf g′ u v c → ArcOf g u v c
-  back u v c = same .arcs u v c .1
-
   same-enough : (b : Buffers) → enough g b ≡ enough g′ b
   same-enough b = rw (same .whole, same-size same, same .bound)
 
@@ -121,10 +105,9 @@ module _ {g g′ : Net ℤ} (same : SameNet g g′) where
   promise-arcs {s} {b} (short n p q) = short n (sym (same-enough b) ∙ p) q
   promise-arcs {s} {b} (outside n p i q) = outside n (sym (same-enough b) ∙ p) (sym (same-inside same) ∙ i) q
   promise-arcs {s} {b} (unknown n p i h q) = unknown n (sym (same-enough b) ∙ p) (sym (same-inside same) ∙ i) (sym (same .has s) ∙ h) q
-  promise-arcs {s} {b} (bad n p i h w q) = bad n (sym (same-enough b) ∙ p) (sym (same-inside same) ∙ i) (sym (same .has s) ∙ h) (bad-over over w) (q ∙ same-blank b)
-  promise-arcs {s} {b} {e} (done n p i h w d q) =
-      done n (sym (same-enough b) ∙ p) (sym (same-inside same) ∙ i) (sym (same .has s) ∙ h) (λ x. w (bad-over back x))
-      (subst (λ (m : ℕ). Settled m (Entry (ArcOf g′) s) (b .dist) (e .dist)) (same .bound) (settled-over (λ v k x y. entry-over over back y) d)) (q ∙ same-clear b)
+  promise-arcs {s} {b} (bad n p i h w q) = bad n (sym (same-enough b) ∙ p) (sym (same-inside same) ∙ i) (sym (same .has s) ∙ h) (bad-over (arc-over same) w) (q ∙ same-blank b)
+  promise-arcs {s} {b} (done n p i h w d q) =
+      done n (sym (same-enough b) ∙ p) (sym (same-inside same) ∙ i) (sym (same .has s) ∙ h) (λ x. w (bad-over (arc-back same) x)) (entries-over same d) (q ∙ same-clear b)
 
   -- so two calls on such maps, with the same buffers and the same source, answer the same and leave the same
   pub same-answers : {s : ℕ} {b e e′ : Buffers} {no no′ : ℕ} → Promise g s b e no → Promise g′ s b e′ no′ → (no ≡ no′) × (e ≡ e′)
@@ -144,31 +127,18 @@ module _ {Arc : ℕ → ℕ → ℤ → Type 0} {s : ℕ} (clean : BadInReach Ar
   pub no-negative : NoNeg Arc s
   no-negative x a t r w = total-up r w
 
--- ---- none is never a total, and stands at each absent index
-module _ (g : Net ℤ) (s v : ℕ) (d : ℤ) (inside : insideNet g ≡ true) (source : has g s ≡ true) where
-  -- an absent index has no walk to it
-  pub absent-none : has g v ≡ false → Entry (ArcOf g) s v d → d ≡ noneI64
-  absent-none f (inr p) = p .0
-  absent-none f (inl l) = absurd (clash (end source (l .walk)) f)
-    where
-      end : {u w : ℕ} {t : ℤ} → has g u ≡ true → Walk (ArcOf g) u w t → has g w ≡ true
-      end k (stay e) = k
-      end k (step {u} {v} {c} a w e) = end (arc-has g inside u v c a .1) w
+-- ---- none is never a total
+module _ (g : Net ℤ) (s v : ℕ) (d : ℤ) (inside : insideNet g ≡ true) (source : has g s ≡ true) (clean : BadInReach (ArcOf g) s → ⊥) (l : Least (ArcOf g) s v d) where
+  -- a total is not below zero
+  pub total-not-none : noneI64 <ℤ d
+  total-not-none = let k = total-up clean (stay refl) (l .walk) in omega (arith, zed)
 
-  module _ (clean : BadInReach (ArcOf g) s → ⊥) (l : Least (ArcOf g) s v d) where
-    -- a total is not below zero
-    pub total-not-none : noneI64 <ℤ d
-    total-not-none = let k = total-up clean (stay refl) (l .walk) in omega (arith, zed)
-
-    -- the costs are those of 32 bits, and a least total has fewer than 1,024 arcs
-    pub total-small : Whole g → ((x y : ℕ) (c : ℤ) → ArcOf g x y c → P c + N c ≤ 2 ^ 31) → d <ℤ pos (1024 * 2 ^ 31)
-    total-small whole small =
-        let w = least-within (nodesOf g) (2 ^ 31) (λ x y c a. present-in g y (arc-has g inside x y c a .1)) (present-in g s source) small (no-negative clean) l in
-        let n : ℕ = w .0 in
-        let k : pos 0 ≤ℤ d = total-up clean (stay refl) (l .walk) in
-        let a : P d ≤ n * 2 ^ 31 + N d = w .2 .0 in
-        let few : n < length (nodesOf g) = w .1 in
-        omega (arith, zed, width-small whole)
+  -- and small
+  pub total-small : Whole g → ((x y : ℕ) (c : ℤ) → ArcOf g x y c → P c + N c ≤ 2 ^ 31) → d <ℤ pos (1024 * 2 ^ 31)
+  total-small whole small =
+      let k : pos 0 ≤ℤ d = total-up clean (stay refl) (l .walk) in
+      let w : P d < 1024 * 2 ^ 31 + N d = total-within g s v d inside source whole small (no-negative clean) l .0 in
+      omega (arith, zed)
 
 -- ---- undirected: a link below zero with either end in reach refuses
 pub undirected-bad : (g : Net ℤ) (s u v : ℕ) (t c : ℤ) → g .directed ≡ false → ArcOf g u v c → c <ℤ pos 0 → Walk (ArcOf g) s u t ⊎ Walk (ArcOf g) s v t → BadInReach (ArcOf g) s

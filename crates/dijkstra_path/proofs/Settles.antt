@@ -3,7 +3,7 @@
 use mathlib.Core.Path.{_≡_, sym, ap, _∙_, subst}
 use mathlib.Core.Bool.{true, false}
 use mathlib.Core.List.{List}
-use mathlib.Core.Logic.{_↔_}
+use mathlib.Core.Logic.{_⊎_, inl, inr, _↔_}
 use mathlib.Core.Option.{none}
 use Prim.Native.Nat.{ℕ, _+_, _*_, _≤_}
 use native.Mathlib.Omega.{arith}
@@ -19,6 +19,7 @@ use Rattle.float.proofs.Past.{past-none, past-nan, past-infinity, past-minus}
 use Rattle.table.specs.Lent.{FloatCost}
 use Rattle.net.specs.Net.{Net, OpenArcOf, insideNet, has, SameNet}
 use Rattle.net.proofs.Same.{same-inside, same-size, same-open}
+use Rattle.net.proofs.Tests.{Test, fails, holds, test-one, both-one}
 use Rattle.pending.specs.Setting.{End}
 use Rattle.pending.specs.Floats.{search64}
 use Rattle.pending.proofs.Floats.{laws64}
@@ -41,34 +42,30 @@ answers-one {m} {x} {y} {b} {e} {e′} q p p′ =
 split : {g : Net FloatCost} {s : ℕ} {k : Cutoff} {x y : End Float} → EndsIn g s k x → x .number ≡ 6 → EndsIn g s k y → y .number ≡ 0 → ⊥
 split {x = x} {y = y} p a q b = let c : x .number ≡ y .number = ap (λ (z : End Float). z .number) (one-end p q) in omega (arith, a, b, c)
 
+module _ (g : Net FloatCost) (s : ℕ) (k : Cutoff) (b : Buffers) where
+  -- after the tests: a bad cost, or done
+  abbrev After : Buffers → ℕ → Type 0
+  After e n =
+      ((n ≡ 6) × (e ≡ blank g b) × (x : End Float) × EndsIn g s k x × (x .number ≡ 6))
+      ⊎ ((n ≡ 0) × (e ≡ left g b (e .dist) (e .preds)) × (x : End Float) × EndsIn g s k x × (x .number ≡ 0) × Answers (g .bound) x b e)
+
+  after-one : {e e′ : Buffers} {no no′ : ℕ} → After e no → After e′ no′ → (no ≡ no′) × (e ≡ e′)
+  after-one (inl x) (inl y) = (x .0 ∙ sym (y .0), x .1 ∙ sym (y .1))
+  after-one (inl x) (inr y) = absurd (split (x .3) (x .4) (y .3) (y .4))
+  after-one (inr x) (inl y) = absurd (split (y .3) (y .4) (x .3) (x .4))
+  after-one (inr x) (inr y) = let o = answers-one (one-end (x .3) (y .3)) (x .5) (y .5) in (x .0 ∙ sym (y .0), x .1 ∙ ((λ i. left g b (o .0 i) (o .1 i)) ∙ sym (y .1)))
+
+  tests : {e : Buffers} {no : ℕ} → Promise g s k b e no → Test (enough g b) ((no ≡ 1) × (e ≡ b)) (Test (insideNet g) ((no ≡ 2) × (e ≡ b)) (Test (has g s) ((no ≡ 3) × (e ≡ b)) (After e no)))
+  tests (short n p q) = fails p (n, q)
+  tests (outside n p i q) = holds p (fails i (n, q))
+  tests (absent n p i h q) = holds p (holds i (fails h (n, q)))
+  tests (bad n p i h x r z q) = holds p (holds i (holds h (inl (n, q, x, r, z))))
+  tests (done n p i h x r z a q) = holds p (holds i (holds h (inr (n, q, x, r, z, a))))
+
 module _ {g : Net FloatCost} {s : ℕ} {k : Cutoff} {b : Buffers} where
   -- the number and every buffer, the answers and the scratch
   pub promise-one : {e e′ : Buffers} {no no′ : ℕ} → Promise g s k b e no → Promise g s k b e′ no′ → (no ≡ no′) × (e ≡ e′)
-  promise-one (short n p q) (short n′ p′ q′) = (n ∙ sym n′, q ∙ sym q′)
-  promise-one (short n p q) (outside n′ p′ i′ q′) = absurd (clash p′ p)
-  promise-one (short n p q) (absent n′ p′ i′ h′ q′) = absurd (clash p′ p)
-  promise-one (short n p q) (bad n′ p′ i′ h′ x′ r′ z′ q′) = absurd (clash p′ p)
-  promise-one (short n p q) (done n′ p′ i′ h′ x′ r′ z′ a′ q′) = absurd (clash p′ p)
-  promise-one (outside n p i q) (short n′ p′ q′) = absurd (clash p p′)
-  promise-one (outside n p i q) (outside n′ p′ i′ q′) = (n ∙ sym n′, q ∙ sym q′)
-  promise-one (outside n p i q) (absent n′ p′ i′ h′ q′) = absurd (clash i′ i)
-  promise-one (outside n p i q) (bad n′ p′ i′ h′ x′ r′ z′ q′) = absurd (clash i′ i)
-  promise-one (outside n p i q) (done n′ p′ i′ h′ x′ r′ z′ a′ q′) = absurd (clash i′ i)
-  promise-one (absent n p i h q) (short n′ p′ q′) = absurd (clash p p′)
-  promise-one (absent n p i h q) (outside n′ p′ i′ q′) = absurd (clash i i′)
-  promise-one (absent n p i h q) (absent n′ p′ i′ h′ q′) = (n ∙ sym n′, q ∙ sym q′)
-  promise-one (absent n p i h q) (bad n′ p′ i′ h′ x′ r′ z′ q′) = absurd (clash h′ h)
-  promise-one (absent n p i h q) (done n′ p′ i′ h′ x′ r′ z′ a′ q′) = absurd (clash h′ h)
-  promise-one (bad n p i h x r z q) (short n′ p′ q′) = absurd (clash p p′)
-  promise-one (bad n p i h x r z q) (outside n′ p′ i′ q′) = absurd (clash i i′)
-  promise-one (bad n p i h x r z q) (absent n′ p′ i′ h′ q′) = absurd (clash h h′)
-  promise-one (bad n p i h x r z q) (bad n′ p′ i′ h′ x′ r′ z′ q′) = (n ∙ sym n′, q ∙ sym q′)
-  promise-one (bad n p i h x r z q) (done n′ p′ i′ h′ x′ r′ z′ a′ q′) = absurd (split r z r′ z′)
-  promise-one (done n p i h x r z a q) (short n′ p′ q′) = absurd (clash p p′)
-  promise-one (done n p i h x r z a q) (outside n′ p′ i′ q′) = absurd (clash i i′)
-  promise-one (done n p i h x r z a q) (absent n′ p′ i′ h′ q′) = absurd (clash h h′)
-  promise-one (done n p i h x r z a q) (bad n′ p′ i′ h′ x′ r′ z′ q′) = absurd (split r′ z′ r z)
-  promise-one (done n p i h x r z a q) (done n′ p′ i′ h′ x′ r′ z′ a′ q′) = let o = answers-one (one-end r r′) a a′ in (n ∙ sym n′, q ∙ ((λ i. left g b (o .0 i) (o .1 i)) ∙ sym q′))
+  promise-one p q = test-one both-one (test-one both-one (test-one both-one (after-one g s k b))) (tests g s k b p) (tests g s k b q)
 
   module _ {e : Buffers} {no : ℕ} where
     -- ---- each number is given exactly when 01 says

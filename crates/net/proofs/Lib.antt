@@ -2,3 +2,5 @@ pub mod Nodes
 pub mod Bounds
 pub mod Same
 pub mod Lists
+pub mod Totals
+pub mod Tests
