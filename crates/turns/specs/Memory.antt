@@ -27,6 +27,11 @@ pub record Memory (K : Type 0) : Type 0 where
 abbrev pub memoryOf : {K : Type 0} → List K → List ℕ → List ℕ → List ℕ → List K → Memory K
 memoryOf d p h i k = record { dist = d; preds = p; heap = h; places = i; keys = k }
 
+-- the lists show an answer: each distance and each predecessor, none where there is none
+pub record Shows {K : Type 0} (blank : K) (e : End K) (M : Memory K) : Type 0 where
+  pub dist : (v : ℕ) → getD (M .dist) v blank ≡ shown blank (e .dist v)
+  pub preds : (v : ℕ) → getD (M .preds) v noneU32 ≡ shown noneU32 (e .pred v)
+
 -- a predecessor as it is read
 abbrev pub predIn : ℕ → Option ℕ
 predIn p = pick (ltb p noneU32) (some p) none
@@ -63,8 +68,3 @@ module _ {K C : Type 0} (Y : Kind K C) where
     pub heap : M .heap ≡ replicate m 0
     pub places : M .places ≡ replicate m 0
     pub keys : length (M .keys) ≡ m
-
-  -- the lists show an answer: each distance and each predecessor, none where there is none
-  pub record Shows (e : End K) (M : Memory K) : Type 0 where
-    pub dist : (v : ℕ) → getD (M .dist) v (Y .blank) ≡ shown (Y .blank) (e .dist v)
-    pub preds : (v : ℕ) → getD (M .preds) v noneU32 ≡ shown noneU32 (e .pred v)

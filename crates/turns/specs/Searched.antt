@@ -28,4 +28,4 @@ module _ {K C : Type 0} (Y : Kind K C) where
     pub ends : Ends (settingOf Y target source) (RowArc m nb) (begin (settingOf Y target source)) 0 end
     pub is : number ≡ end .number
     pub many : takes ≡ end .takes
-    pub shows : number ≡ 0 → Shows Y end M
+    pub shows : number ≡ 0 → Shows (Y .blank) end M
