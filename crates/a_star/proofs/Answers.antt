@@ -16,7 +16,7 @@ use lib.ListN.{length, getD, take}
 use lib.Seq.{getD-take, length-take-le}
 use Rattle.whole.specs.Zed.{_⊕_, zed}
 use Rattle.whole.proofs.Cases.{clash}
-use Rattle.clean.specs.None.{noneI64, noneU32}
+use Rattle.clean.specs.None.{noneI64, noneU32, shown}
 use Rattle.clean.specs.Fill.{filled}
 use Rattle.clean.proofs.Filled.{filled-same}
 use Rattle.walks.specs.Walk.{Walk, stay, step}
@@ -42,9 +42,9 @@ use Rattle.rows.specs.Kept.{KeptLists}
 use Rattle.rows.specs.Scratch.{wiped}
 use Rattle.rows.proofs.Kept.{needs-kept}
 use Rattle.rows.proofs.Maps.{ready-ints, net-room, arcs-are, net-sound, net-kept, row-small}
-use Rattle.search.specs.Search.{keyOf, targetOf, askedOf, settingOf, Fair, Fit, Memory, memoryOf, distOut, Shows}
+use Rattle.search.specs.Search.{keyOf, targetOf, askedOf, settingOf, Fair, Fit, Memory, memoryOf, Shows}
 use Rattle.search.specs.Runs.{firsts, Roomy, KeptMemory, Ran}
-use Rattle.search.proofs.Cells.{shown-pred}
+use Rattle.search.proofs.Runs.{shown-pred}
 use Rattle.a_star.specs.Promise.{Question, questionOf, Answer, Scratch, Buffers, fairGuess, Fine, written, wipedMemory, wipedAll, searchOf, Says, bad, unreached, reached, Outcome}
 use Rattle.a_star.specs.Trail.{GoesBack}
 use Rattle.a_star.specs.Parts.{Room as ScratchRoom, CanSeek, Ripe, Sought, given, Told, pathBack, Read, refused, nowhere, found}
@@ -175,7 +175,7 @@ module _ (g : Net ℤ) (q : Question) {b : Buffers} (w : Fine g q b) {x : End �
   -- the lists after the search
   module _ (M : Memory) (long-preds : m ≤ length (M .preds)) (shows : Shows x (firsts m M)) where
     -- the target's distance, read
-    dist-is : getD (M .dist) (q .target) noneI64 ≡ distOut (x .dist (q .target))
+    dist-is : getD (M .dist) (q .target) noneI64 ≡ shown noneI64 (x .dist (q .target))
     dist-is = sym (getD-take m (M .dist) (q .target) noneI64 target-in) ∙ shows .dist (q .target)
 
     -- m predecessors
@@ -212,7 +212,7 @@ module _ (g : Net ℤ) (q : Question) {b : Buffers} (w : Fine g q b) {x : End �
     goes-back z y = go (x .dist (q .target)) refl
       where
         go : (o : Option ℤ) → x .dist (q .target) ≡ o → GoesBack (take m (M .preds)) (q .source) (m - 1) (q .target)
-        go none e = absurd (clash y (given-none (M .dist) (q .target) (dist-is ∙ ap distOut e)))
+        go none e = absurd (clash y (given-none (M .dist) (q .target) (dist-is ∙ ap (shown noneI64) e)))
         go (some d) e = back-in-time d e (answered q ends .chain z d e)
 
     -- a target with a distance
@@ -220,10 +220,10 @@ module _ (g : Net ℤ) (q : Question) {b : Buffers} (w : Fine g q b) {x : End �
     says-found {r} {l} z y a p = go (x .dist (q .target)) refl
       where
         go : (o : Option ℤ) → x .dist (q .target) ≡ o → Says (ArcOf g) q x r l
-        go none e = absurd (clash y (given-none (M .dist) (q .target) (dist-is ∙ ap distOut e)))
+        go none e = absurd (clash y (given-none (M .dist) (q .target) (dist-is ∙ ap (shown noneI64) e)))
         go (some d) e =
             let c = answered q ends .chain z d e in
-            reached z d e c (a ∙ ap (λ (k : ℤ). record { number = 0; cost = k; length = length l }) (dist-is ∙ ap distOut e)) (p ∙ path-is d e c)
+            reached z d e c (a ∙ ap (λ (k : ℤ). record { number = 0; cost = k; length = length l }) (dist-is ∙ ap (shown noneI64) e)) (p ∙ path-is d e c)
 
     -- and one without
     pub says-nowhere : {r : Answer} → x .number ≡ 0 → given (M .dist) (q .target) ≡ false → r ≡ record { number = 0; cost = noneI64; length = 0 } → Says (ArcOf g) q x r []
@@ -231,7 +231,7 @@ module _ (g : Net ℤ) (q : Question) {b : Buffers} (w : Fine g q b) {x : End �
       where
         go : (o : Option ℤ) → x .dist (q .target) ≡ o → Says (ArcOf g) q x r []
         go none e = unreached z e a refl
-        go (some d) e = absurd (clash (given-some (M .dist) (q .target) d (dist-is ∙ ap distOut e) (got q ends (q .target) d e .up)) y)
+        go (some d) e = absurd (clash (given-some (M .dist) (q .target) d (dist-is ∙ ap (shown noneI64) e) (got q ends (q .target) d e .up)) y)
 
   -- a search that was refused
   pub says-bad : {r : Answer} {number : ℕ} → number ≡ x .number → (number ≡ 0 → ⊥) → r ≡ record { number = number; cost = noneI64; length = 0 } → Says (ArcOf g) q x r []

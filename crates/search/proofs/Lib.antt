@@ -1,4 +1,4 @@
-pub mod Cells
+pub mod Ints
 pub mod Rows
 pub mod Turns
 pub mod Runs

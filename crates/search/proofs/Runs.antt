@@ -13,9 +13,9 @@ use lib.IntN.{ℤ, pos}
 use lib.ListN.{length, getD, take, drop, replicate, length-replicate, length-append, length-drop}
 use lib.Seq.{drop-at, take-at, length-take-le, getD-take}
 use Rattle.whole.specs.Zed.{_⊕_, zed, sum}
-use Rattle.clean.specs.None.{noneI64, noneU32}
+use Rattle.clean.specs.None.{noneI64, noneU32, shown}
 use Rattle.clean.specs.Fill.{filled}
-use Rattle.clean.proofs.Filled.{settle, settled-over}
+use Rattle.clean.proofs.Filled.{no-default, settle, settled-over}
 use Rattle.walks.specs.Walk.{Least, Entry}
 use Rattle.walks.proofs.Over.{walk-over, entry-over}
 use Rattle.rows.specs.Rows.{Lists}
@@ -23,13 +23,15 @@ use Rattle.rows.specs.Kept.{Kept}
 use Rattle.rows.proofs.Kept.{kept-more, kept-filled}
 use Rattle.rows.specs.RowArc.{RowArc}
 use Rattle.bag.specs.Order.{pick}
-use Rattle.pending.specs.Setting.{Setting}
+use Rattle.bag.proofs.Empty.{zeros-worded}
+use Rattle.pending.specs.Setting.{Setting, End}
 use Rattle.pending.specs.Ints.{whole, dijkstra}
 use Rattle.pending.specs.OnePlace.{begin, Ends}
 use Rattle.pending.specs.Reach.{BadInReach}
 use Rattle.pending.specs.Answers.{DijkstraAnswer}
 use Rattle.pending.proofs.Dijkstra.{dijkstra-answer}
-use Rattle.search.specs.Search.{keyOf, targetOf, Asked, askedOf, settingOf, Fair, Fit, Fresh, Memory, memoryOf, distOut, Searched}
+use Rattle.turns.specs.Memory.{Fresh}
+use Rattle.search.specs.Search.{keyOf, targetOf, Asked, askedOf, settingOf, guided, Fair, Fit, Memory, memoryOf, Shows, Searched}
 use Rattle.search.specs.Runs.{firsts, Roomy, KeptMemory, Ran, Cheap, Reached, done, bad}
 
 -- the part that was filled
@@ -72,9 +74,9 @@ module _ {m : ℕ} {M : Memory} (w : Roomy m M) {d : List ℤ} {p h i : List ℕ
   }
 
   -- nothing has a distance, nothing is pending
-  pub fresh : m ≤ 1024 → Fresh m (firsts m (memoryOf d p h i (M .keys)))
-  fresh few = record {
-    few = few;
+  pub fresh : (g : List ℤ) → m ≤ 1024 → Fresh (guided g) m (firsts m (memoryOf d p h i (M .keys)))
+  fresh g few = record {
+    shape = zeros-worded m few;
     dist = filled-first m noneI64 (M .dist) d d-is;
     preds = filled-first m noneU32 (M .preds) p p-is;
     places = filled-first m 0 (M .places) i i-is;
@@ -118,6 +120,10 @@ module _ {m : ℕ} {M : Memory} (w : Roomy m M) {d : List ℤ} {p h i : List ℕ
     -- the search is over
     pub ran : {s t number takes : ℕ} {h : List ℤ} {nb : Lists ℤ} → Searched (askedOf m s t h) nb (memoryOf d′ p′ h′ i′ k′) number takes → Ran (askedOf m s t h) nb M after number takes
     ran {s} {t} {number} {takes} {h} {nb} z = record { searched = subst (λ (x : Memory). Searched (askedOf m s t h) nb x number takes) first-is z; kept = kept }
+
+-- a predecessor that the end names, read
+pub shown-pred : {e : End ℤ} {M : Memory} → Shows e M → (v u : ℕ) → v < length (M .preds) → e .pred v ≡ some u → getD (M .preds) v 0 ≡ u
+shown-pred {M} s v u i q = no-default (M .preds) v 0 noneU32 i ∙ s .preds v ∙ ap (shown noneU32) q
 
 -- ---- no heuristic, no target
 -- a heuristic of one zero
@@ -163,12 +169,12 @@ module _ {m s : ℕ} {nb : Lists ℤ} where
     entry : w .searched .end .number ≡ 0 → (v : ℕ) → Entry (RowArc m nb) s v (getD (take m (M′ .dist)) v noneI64)
     entry e v = go (w .searched .end .dist v) refl
       where
-        shown : getD (take m (M′ .dist)) v noneI64 ≡ distOut (w .searched .end .dist v)
-        shown = w .searched .shows (w .searched .is ∙ e) .dist v
+        reads : getD (take m (M′ .dist)) v noneI64 ≡ shown noneI64 (w .searched .end .dist v)
+        reads = w .searched .shows (w .searched .is ∙ e) .dist v
 
         go : (o : Option ℤ) → w .searched .end .dist v ≡ o → Entry (RowArc m nb) s v (getD (take m (M′ .dist)) v noneI64)
-        go none f = inr (shown ∙ ap distOut f, λ t x. answer .unreached e v f t x)
-        go (some d) f = inl (subst (λ (z : ℤ). Least (RowArc m nb) s v z) (sym (shown ∙ ap distOut f)) (answer .least e v d f))
+        go none f = inr (reads ∙ ap (shown noneI64) f, λ t x. answer .unreached e v f t x)
+        go (some d) f = inl (subst (λ (z : ℤ). Least (RowArc m nb) s v z) (sym (reads ∙ ap (shown noneI64) f)) (answer .least e v d f))
 
     -- the answer over the whole list of distances
     pub reached : Reached (RowArc m nb) m s (M .dist) (M′ .dist) number

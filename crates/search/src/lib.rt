@@ -9,8 +9,11 @@ ghost use Rattle.clean.specs.None.{noneI64, noneU32};
 ghost use Rattle.clean.specs.Fill.{filled};
 ghost use Rattle.rows.specs.Rows.{listsOf};
 ghost use Rattle.rows.specs.RowArc.{RowArc};
-ghost use Rattle.search.specs.Search.{keyOf, askedOf, dear, Fair, Fit, memoryOf, Fresh, Searched};
-ghost use Rattle.search.specs.Steps.{far, betterThan, Safe, Looked, Opens, RowDone, Started};
+ghost use Rattle.turns.specs.Memory.{Fresh};
+ghost use Rattle.turns.specs.Row.{Safe, Looked, Opens, RowDone};
+ghost use Rattle.turns.specs.Searched.{Started};
+ghost use Rattle.search.specs.Search.{keyOf, askedOf, guided, dear, Fair, Fit, memoryOf, Searched};
+ghost use Rattle.search.specs.Steps.{far, betterThan, InRange, RowInRange};
 ghost use Rattle.search.specs.Runs.{Roomy, KeptMemory, Ran, Cheap, Reached};
 
 // What a search ends in: 0, or 6 where a cost below zero was met; and how many pairs were taken and not dropped.
@@ -87,8 +90,9 @@ fn look_arc(
     places: &mut [usize],
     keys: &mut [i64],
 ) -> usize
-    requires { ⌜ Safe (now guess) u d v c size (memoryOf (now dist) (now preds) (now heap) (now places) (now keys)) ⌝ }
-    ensures { λ r. ⌜ Looked (now (guess .entry)) u d v c size (memoryOf (now (dist .entry)) (now (preds .entry)) (now (heap .entry)) (now (places .entry)) (now (keys .entry))) (memoryOf (now (dist .exit)) (now (preds .exit)) (now (heap .exit)) (now (places .exit)) (now (keys .exit))) r ⌝ }
+    requires { ⌜ Safe (guided (now guess)) u d v c size (memoryOf (now dist) (now preds) (now heap) (now places) (now keys)) ⌝ }
+    requires { ⌜ InRange (now guess) d v c ⌝ }
+    ensures { λ r. ⌜ Looked (guided (now (guess .entry))) u d v c size (memoryOf (now (dist .entry)) (now (preds .entry)) (now (heap .entry)) (now (places .entry)) (now (keys .entry))) (memoryOf (now (dist .exit)) (now (preds .exit)) (now (heap .exit)) (now (places .exit)) (now (keys .exit))) r ⌝ }
 {
     let n = whole::plus(d, c);
     if !better(dist, v, n) {
@@ -115,8 +119,9 @@ fn look_row(
     places: &mut [usize],
     keys: &mut [i64],
 ) -> Turn
-    requires { ⌜ Opens m (now guess) (listsOf (now offsets) (now heads) (now weights)) u waiting (memoryOf (now dist) (now preds) (now heap) (now places) (now keys)) ⌝ }
-    ensures { λ r. ⌜ RowDone m (now (guess .entry)) (listsOf (now (offsets .entry)) (now (heads .entry)) (now (weights .entry))) u (memoryOf (now (dist .entry)) (now (preds .entry)) (now (heap .entry)) (now (places .entry)) (now (keys .entry))) (memoryOf (now (dist .exit)) (now (preds .exit)) (now (heap .exit)) (now (places .exit)) (now (keys .exit))) (r .bad) (r .size) ⌝ }
+    requires { ⌜ Opens (guided (now guess)) m (listsOf (now offsets) (now heads) (now weights)) u waiting (memoryOf (now dist) (now preds) (now heap) (now places) (now keys)) ⌝ }
+    requires { ⌜ RowInRange m (now guess) (listsOf (now offsets) (now heads) (now weights)) u (getD (now dist) u noneI64) ⌝ }
+    ensures { λ r. ⌜ RowDone (guided (now (guess .entry))) m (listsOf (now (offsets .entry)) (now (heads .entry)) (now (weights .entry))) u (memoryOf (now (dist .entry)) (now (preds .entry)) (now (heap .entry)) (now (places .entry)) (now (keys .entry))) (memoryOf (now (dist .exit)) (now (preds .exit)) (now (heap .exit)) (now (places .exit)) (now (keys .exit))) (r .bad) (r .size) ⌝ }
 {
     let d = dist[u];
     let end = offsets[u + 1];
@@ -162,9 +167,9 @@ fn start(
     keys: &mut [i64],
 ) -> usize
     requires { ⌜ Fair (now guess) source ⌝ }
-    requires { ⌜ Fresh (length (now places)) (memoryOf (now dist) (now preds) (now heap) (now places) (now keys)) ⌝ }
+    requires { ⌜ Fresh (guided (now guess)) (length (now places)) (memoryOf (now dist) (now preds) (now heap) (now places) (now keys)) ⌝ }
     requires { ⌜ source < length (now places) ⌝ }
-    ensures { λ r. ⌜ Started source (now (guess .entry)) (memoryOf (now (dist .entry)) (now (preds .entry)) (now (heap .entry)) (now (places .entry)) (now (keys .entry))) (memoryOf (now (dist .exit)) (now (preds .exit)) (now (heap .exit)) (now (places .exit)) (now (keys .exit))) r ⌝ }
+    ensures { λ r. ⌜ Started (guided (now (guess .entry))) source (memoryOf (now (dist .entry)) (now (preds .entry)) (now (heap .entry)) (now (places .entry)) (now (keys .entry))) (memoryOf (now (dist .exit)) (now (preds .exit)) (now (heap .exit)) (now (places .exit)) (now (keys .exit))) r ⌝ }
 {
     store(dist, source, 0);
     name(preds, source, clean::NONE_U32);
@@ -188,7 +193,7 @@ pub fn search(
     keys: &mut [i64],
 ) -> Found
     requires { ⌜ Fit (askedOf m source target (now guess)) (listsOf (now offsets) (now heads) (now weights)) ⌝ }
-    requires { ⌜ Fresh m (memoryOf (now dist) (now preds) (now heap) (now places) (now keys)) ⌝ }
+    requires { ⌜ Fresh (guided (now guess)) m (memoryOf (now dist) (now preds) (now heap) (now places) (now keys)) ⌝ }
     ensures { λ r. ⌜ Searched (askedOf m source target (now (guess .entry))) (listsOf (now (offsets .entry)) (now (heads .entry)) (now (weights .entry))) (memoryOf (now (dist .exit)) (now (preds .exit)) (now (heap .exit)) (now (places .exit)) (now (keys .exit))) (r .number) (r .takes) ⌝ }
 {
     let mut size: usize = start(source, guess, dist, preds, heap, places, keys);

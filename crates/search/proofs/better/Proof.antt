@@ -10,7 +10,7 @@ use mir.ValLaws.{toZ-ofZ}
 use Rattle.clean.proofs.Filled.{no-default}
 use Rattle.clean.specs.None.{noneI64}
 use Rattle.search.specs.Steps.{betterThan}
-use Rattle.search.proofs.Cells.{better-over, better-none}
+use Rattle.search.proofs.Ints.{better-over, better-none}
 use Rattle.search.proofs.better.Statement.{statement}
 use Rattle.search.proofs.better.Tie as tie
 

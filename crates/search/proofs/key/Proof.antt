@@ -8,7 +8,7 @@ use mir.Syntax.{w64}
 use mir.Val.{SFits, toZ, ofZ}
 use mir.ValLaws.{toZ-ofZ}
 use Rattle.whole.specs.Zed.{_⊕_}
-use Rattle.search.proofs.Cells.{key-fits, key-is, key-past}
+use Rattle.search.proofs.Ints.{key-fits, key-is, key-past}
 use Rattle.search.proofs.key.Statement.{statement}
 use Rattle.search.proofs.key.Tie as tie
 

@@ -3,7 +3,6 @@
 use mathlib.Core.Path.{_≡_, refl, sym, ap, subst, _∙_}
 use mathlib.Core.Option.{some}
 use Prim.Native.Nat.{_+_}
-use native.Mathlib.Omega.{arith}
 use borrow.Author.Needs.{needs, sfits-of}
 use borrow.Author.Tests.{not-true, not-false}
 use lib.IntN.{ℤ, pos}
@@ -12,15 +11,15 @@ use lib.ListN.{getD, set}
 use mir.Syntax.{w64}
 use mir.Val.{toZ, ofZ}
 use mir.ValLaws.{toZ-ofZ}
-use Rattle.whole.specs.Zed.{_⊕_, zed, sum}
-use Rattle.pending.proofs.Falls.{nonneg}
+use Rattle.whole.specs.Zed.{_⊕_}
 use Rattle.clean.specs.None.{noneI64}
 use Rattle.bag.specs.Content.{contentOf}
 use Rattle.bag.specs.Ints.{ints, Near}
 use Rattle.bag.specs.Bag.{NotAbove}
-use Rattle.search.specs.Search.{keyOf, dear}
-use Rattle.search.specs.Steps.{far, kept, stored, betterThan}
-use Rattle.search.proofs.Cells.{key-near}
+use Rattle.turns.specs.Row.{betterAt, kept, stored}
+use Rattle.search.specs.Search.{keyOf, guided, dear}
+use Rattle.search.specs.Steps.{far}
+use Rattle.search.proofs.Ints.{better-at, parts-small, sum-small, sum-near}
 use Rattle.search.proofs.look_arc.Statement.{statement}
 use Rattle.search.proofs.look_arc.Tie as tie
 use Rattle.search.proofs.look_arc.Reads as reads
@@ -37,8 +36,8 @@ module _ (c : lts.After-better (plus-reads.Asked, plus-reads.Learnt, better-read
   n-is : toZ w64 (ofZ w64 (c .before .before .plus .result)) ≡ c .before .before .before .before .before .before .args .d ⊕ c .before .before .before .before .before .before .args .c
   n-is = let s = c .before .before .before .before .before .before in toZ-ofZ w64 _ (sfits-of (c .before .before .plus .ok)) ∙ (c .before .before .plus .ensures ∙ (λ i. toZ-ofZ w64 (s .args .d) (s .fits .d) i ⊕ toZ-ofZ w64 (s .args .c) (s .fits .c) i))
 
-  better-gave : c .better .result ≡ betterThan (c .before .before .before .before .before .before .args .d ⊕ c .before .before .before .before .before .before .args .c) (getD (c .before .before .before .before .before .before .args .dist .now) (c .before .before .before .before .before .before .args .v) noneI64)
-  better-gave = c .better .ensures ∙ ap (λ (z : ℤ). betterThan z (getD (c .before .before .before .before .before .before .args .dist .now) (c .before .before .before .before .before .before .args .v) noneI64)) n-is
+  better-gave : c .better .result ≡ betterAt (guided (c .before .before .before .before .before .before .args .guess .now)) (c .before .before .before .before .before .before .args .d ⊕ c .before .before .before .before .before .before .args .c) (getD (c .before .before .before .before .before .before .args .dist .now) (c .before .before .before .before .before .before .args .v) noneI64)
+  better-gave = c .better .ensures ∙ better-at (c .before .before .before .before .before .before .args .guess .now) _ _ ∙ ap (λ (z : ℤ). betterAt (guided (c .before .before .before .before .before .before .args .guess .now)) z (getD (c .before .before .before .before .before .before .args .dist .now) (c .before .before .before .before .before .before .args .v) noneI64)) n-is
 
 -- and the key
 module _ (c : lts.After-key (plus-reads.Asked, plus-reads.Learnt, better-reads.Asked, better-reads.Learnt, store-reads.Asked, store-reads.Learnt, name-reads.Asked, name-reads.Learnt, key-reads.Asked, key-reads.Learnt, push-or-lower-reads.Asked, push-or-lower-reads.Learnt) reads.Pre reads.Post) where
@@ -46,11 +45,7 @@ module _ (c : lts.After-key (plus-reads.Asked, plus-reads.Learnt, better-reads.A
   k-is = let s = c .before .before .before .before .before .before .before .before .before .before .before .before .before .before .before in toZ-ofZ w64 _ (sfits-of (c .key .ok)) ∙ c .key .ensures ∙ ap (λ (z : ℤ). keyOf (s .args .guess .now) z (s .args .v)) (n-is (c .before .before .before .before .before .before .before .before .before))
 
 plus-requires : tie.Need-plus-requires
-plus-requires c κs =
-    let s = c .before .before .before in
-    let b : s .args .d ≤ℤ pos far = s .pre .high in
-    let y : s .args .c ≤ℤ pos dear = s .pre .cheap in
-    rw (toZ-ofZ w64 (s .args .d) (s .fits .d), toZ-ofZ w64 (s .args .c) (s .fits .c)) (omega (arith, zed, nonneg (s .args .d) (s .pre .low)), omega (arith, zed, nonneg (s .args .c) (s .pre .cost)))
+plus-requires c κs = let s = c .before .before .before in rw (toZ-ofZ w64 (s .args .d) (s .fits .d), toZ-ofZ w64 (s .args .c) (s .fits .c)) (parts-small (s .pre .0 .dist) (s .pre .0 .cost) (s .pre .1))
 
 better-requires : tie.Need-better-requires
 better-requires c κs = search needs
@@ -59,7 +54,7 @@ same-length : tie.Need-same-length
 same-length c = search needs
 
 returns : tie.Need-returns
-returns c = kept (sym (better-gave (c .before)) ∙ not-true _ (c .if1 .taken)) refl refl
+returns c = kept refl (sym (better-gave (c .before)) ∙ not-true _ (c .if1 .taken)) refl refl
 
 store-requires : tie.Need-store-requires
 store-requires c κs = search needs
@@ -73,24 +68,14 @@ name-requires c κs = search needs
 key-requires : tie.Need-key-requires
 key-requires c κs =
     let s = c .before .before .before .before .before .before .before .before .before .before .before .before .before .before in
-    let e = n-is (c .before .before .before .before .before .before .before .before) in
-    let a : pos 0 ≤ℤ s .args .d = s .pre .low in
-    let b : s .args .d ≤ℤ pos far = s .pre .high in
-    let x : pos 0 ≤ℤ s .args .c = s .pre .cost in
-    let y : s .args .c ≤ℤ pos dear = s .pre .cheap in (
-      s .pre .fair,
-      (subst (λ (z : ℤ). pos 0 ≤ℤ z) (sym e) (omega (arith, zed, sum (s .args .d) (s .args .c))), subst (λ (z : ℤ). z ≤ℤ pos (far + dear)) (sym e) (omega (arith, zed, sum (s .args .d) (s .args .c)))),
-    )
+    (s .pre .1 .fair, subst (λ (z : ℤ). (pos 0 ≤ℤ z) × (z ≤ℤ pos (far + dear))) (sym (n-is (c .before .before .before .before .before .before .before .before))) (sum-small (s .pre .0 .dist) (s .pre .0 .cost) (s .pre .1)))
 
 push-or-lower-requires : tie.Need-push-or-lower-requires
 push-or-lower-requires c κs =
     let s = c .before .before .before .before .before .before .before .before .before .before .before .before .before .before .before .before .before .before in
-    let a : pos 0 ≤ℤ s .args .d = s .pre .low in
-    let b : s .args .d ≤ℤ pos far = s .pre .high in
-    let x : pos 0 ≤ℤ s .args .c = s .pre .cost in
-    let y : s .args .c ≤ℤ pos dear = s .pre .cheap in (
-      s .pre .bag,
-      (s .pre .inB, (subst (NotAbove ints (contentOf (s .args .places .now) (s .args .keys .now)) (s .args .v)) (sym (k-is (c .before .before .before))) (s .pre .lower (sym (better-gave (c .before .before .before .before .before .before .before .before .before .before .before .before)) ∙ not-false _ (c .before .before .before .before .before .before .before .before .before .before .before .if1 .left))), subst Near (sym (k-is (c .before .before .before))) (key-near _ (s .args .d ⊕ s .args .c) _ (s .pre .fair) (omega (arith, zed, sum (s .args .d) (s .args .c))) (omega (arith, zed, sum (s .args .d) (s .args .c)))))),
+    let b = sym (better-gave (c .before .before .before .before .before .before .before .before .before .before .before .before)) ∙ not-false _ (c .before .before .before .before .before .before .before .before .before .before .before .if1 .left) in (
+      s .pre .0 .bag,
+      (s .pre .0 .inB, (subst (NotAbove ints (contentOf (s .args .places .now) (s .args .keys .now)) (s .args .v)) (sym (k-is (c .before .before .before))) (s .pre .0 .lower b), subst Near (sym (k-is (c .before .before .before))) (sum-near (s .pre .0 .dist) (s .pre .0 .cost) (s .pre .1)))),
     )
 
 same-length-2 : tie.Need-same-length-2
@@ -111,7 +96,7 @@ same-length-6 c = search needs
 returns-2 : tie.Need-returns-2
 returns-2 c =
     let s = c .before .before .before .before .before .before .before .before .before .before .before .before .before .before .before .before .before .before .before .before .before .before .before .before in
-    stored (sym (better-gave (c .before .before .before .before .before .before .before .before .before .before .before .before .before .before .before .before .before .before)) ∙ not-false _ (c .before .before .before .before .before .before .before .before .before .before .before .before .before .before .before .before .before .if1 .left))
+    stored refl (sym (better-gave (c .before .before .before .before .before .before .before .before .before .before .before .before .before .before .before .before .before .before)) ∙ not-false _ (c .before .before .before .before .before .before .before .before .before .before .before .before .before .before .before .before .before .if1 .left))
     (c .before .before .before .before .before .before .before .before .before .before .before .before .before .before .before .store .ensures ∙ ap (set (s .args .dist .now) (s .args .v)) (n-is (c .before .before .before .before .before .before .before .before .before .before .before .before .before .before .before .before .before .before)))
     (c .before .before .before .before .before .before .before .before .before .before .before .before .name .ensures)
     (c .before .before .before .before .before .push-or-lower .ensures .0)

@@ -4,14 +4,17 @@ use borrow.Author.Needs.{needs, sfits-of}
 use mathlib.Core.Path.{refl, sym, _∙_}
 use Prim.Native.Nat.{_+_, _-_, _<_}
 use native.Mathlib.Omega.{arith}
+use lib.IntN.{pos}
 use lib.ListN.{length}
 use mir.Syntax.{w64}
 use mir.Val.{toZ}
 use mir.ValLaws.{toZ-ofZ}
 use Rattle.rows.specs.Rows.{listsOf}
-use Rattle.search.specs.Search.{memoryOf}
-use Rattle.search.specs.Steps.{Row}
-use Rattle.search.proofs.Rows.{row-first, arc-safe, arc-next, row-stops, row-ends}
+use Rattle.turns.specs.Row.{Row}
+use Rattle.turns.proofs.Rows.{cost-here, row-first, row-stops, row-ends}
+use Rattle.search.specs.Search.{memoryOf, guided}
+use Rattle.search.proofs.Ints.{lawful}
+use Rattle.search.proofs.Rows.{entry-is, arc-safe, arc-next}
 use Rattle.search.proofs.look_row.Statement.{statement}
 use Rattle.search.proofs.look_row.Tie as tie
 use Rattle.search.proofs.look_row.Reads as reads
@@ -21,7 +24,7 @@ use Rattle.search.proofs.look_arc.Reads as look-arc-reads
 
 abbrev Inv-loop : tie.InvT-loop
 Inv-loop m u waiting offsets heads weights guess dist₀ preds₀ heap₀ places₀ keys₀ d end size₀ i₀ dist preds heap places keys size i =
-    Row m guess (listsOf offsets heads weights) u (toZ w64 d) i size (memoryOf dist₀ preds₀ heap₀ places₀ keys₀) (memoryOf dist preds heap places keys)
+    Row (guided guess) m (listsOf offsets heads weights) u (toZ w64 d) i size (memoryOf dist₀ preds₀ heap₀ places₀ keys₀) (memoryOf dist preds heap places keys)
 
 abbrev μ-loop : tie.MeasureT-loop
 μ-loop m u waiting offsets heads weights guess dist₀ preds₀ heap₀ places₀ keys₀ d end size₀ i₀ dist preds heap places keys size i = end - i
@@ -29,10 +32,10 @@ abbrev μ-loop : tie.MeasureT-loop
 -- a place of the row is a place of the neighbour list
 module _ (c : lts.In-loop (below-zero-reads.Asked, below-zero-reads.Learnt, look-arc-reads.Asked, look-arc-reads.Learnt) reads.Pre reads.Post Inv-loop μ-loop) where
   in-heads : c .before .loop .i < length (c .before .before .before .before .before .before .before .before .before .before .args .heads .now)
-  in-heads = let s = c .before .before .before .before .before .before .before .before .before .before in omega (arith, c .loop-test .taken, s .pre .rows .heads (s .args .u) (s .pre .row))
+  in-heads = let s = c .before .before .before .before .before .before .before .before .before .before in omega (arith, c .loop-test .taken, s .pre .0 .rows .heads (s .args .u) (s .pre .0 .row))
 
   in-weights : c .before .loop .i < length (c .before .before .before .before .before .before .before .before .before .before .args .weights .now)
-  in-weights = let s = c .before .before .before .before .before .before .before .before .before .before in omega (arith, c .loop-test .taken, s .pre .rows .weights (s .args .u) (s .pre .row))
+  in-weights = let s = c .before .before .before .before .before .before .before .before .before .before in omega (arith, c .loop-test .taken, s .pre .0 .rows .weights (s .args .u) (s .pre .0 .row))
 
 mul-d : tie.Need-mul-d Inv-loop μ-loop
 mul-d c = search needs
@@ -56,7 +59,7 @@ shared-slice-read-i : tie.Need-shared-slice-read-i Inv-loop μ-loop
 shared-slice-read-i c = search needs
 
 loop-holds : tie.Need-loop-holds Inv-loop μ-loop
-loop-holds c = row-first (c .before .before .before .before .before .before .before .before .pre .good)
+loop-holds c = let s = c .before .before .before .before .before .before .before .before in row-first (lawful (s .args .guess .now)) (s .pre .0 .good)
 
 below-zero-requires : tie.Need-below-zero-requires Inv-loop μ-loop
 below-zero-requires c κs = in-weights c
@@ -77,7 +80,10 @@ same-length-5 : tie.Need-same-length-5 Inv-loop μ-loop
 same-length-5 c = search needs
 
 returns : tie.Need-returns Inv-loop μ-loop
-returns c = row-stops (c .before .before .before .before .before .before .before .before .before .before .before .before .pre) (c .before .before .before .loop .inv) (c .before .before .loop-test .taken) (sym (c .before .below-zero .ensures) ∙ c .if1 .taken) refl
+returns c =
+    let t = c .before .before .before in
+    let s = t .before .before .before .before .before .before .before .before .before in
+    row-stops (lawful (s .args .guess .now)) (s .pre .0) (entry-is (s .args .guess .now) (s .pre .0) (toZ-ofZ w64 _ (sfits-of (t .before .before .before .d .given)))) (t .loop .inv) (c .before .before .loop-test .taken) refl (cost-here (pos 0) (s .pre .0 .rows) (s .pre .0 .row) (c .before .before .loop-test .taken)) (sym (c .before .below-zero .ensures) ∙ c .if1 .taken) refl
 
 mul-v : tie.Need-mul-v Inv-loop μ-loop
 mul-v c = let h = in-heads (c .before .before) in search needs
@@ -98,7 +104,7 @@ look-arc-requires : tie.Need-look-arc-requires Inv-loop μ-loop
 look-arc-requires c κs =
     let t = c .before .before .before .before .before .before .before .before .before .before in
     let s = t .before .before .before .before .before .before .before .before .before in
-    arc-safe (s .pre) (toZ-ofZ w64 _ (sfits-of (t .before .before .before .d .given))) (t .loop .inv) (c .before .before .before .before .before .before .before .before .before .loop-test .taken) refl (toZ-ofZ w64 _ (sfits-of (c .before .before .before .before .before .look-arc-arg .given))) (sym (c .before .before .before .before .before .before .before .before .below-zero .ensures) ∙ c .before .before .before .before .before .before .before .if1 .left)
+    arc-safe (s .args .guess .now) (s .pre .0) (toZ-ofZ w64 _ (sfits-of (t .before .before .before .d .given))) (t .loop .inv) (c .before .before .before .before .before .before .before .before .before .loop-test .taken) refl (toZ-ofZ w64 _ (sfits-of (c .before .before .before .before .before .look-arc-arg .given))) (sym (c .before .before .before .before .before .before .before .before .below-zero .ensures) ∙ c .before .before .before .before .before .before .before .if1 .left) (s .pre .1)
 
 add-i : tie.Need-add-i Inv-loop μ-loop
 add-i c = omega (arith, c .before .before .before .before .before .before .before .before .before .before .before .before .before .before .before .before .before .before .loop-test .taken, c .before .before .before .before .before .before .before .before .before .before .before .before .before .before .before .before .before .before .before .before .before .shared-slice-known3 .given (c .before .before .before .before .before .before .before .before .before .before .before .before .before .before .before .before .before .before .before .before .before .before .before .before .before .before .before .before .args .u + 1))
@@ -111,7 +117,7 @@ loop-again c =
     let a = c .before .before .before .before .before .before .before .before .before in
     let t = a .before .before .before .before .before .before .before .before .before .before in
     let s = t .before .before .before .before .before .before .before .before .before in
-    arc-next (s .pre) (toZ-ofZ w64 _ (sfits-of (t .before .before .before .d .given))) (t .loop .inv) (a .before .before .before .before .before .before .before .before .before .loop-test .taken) refl (toZ-ofZ w64 _ (sfits-of (a .before .before .before .before .before .look-arc-arg .given))) (sym (a .before .before .before .before .before .before .before .before .below-zero .ensures) ∙ a .before .before .before .before .before .before .before .if1 .left) (c .before .before .before .before .before .before .before .before .look-arc .ensures) (c .before .before .before .before .before .before .before .before .look-arc .kept .1 .1 .1 .1 .1 .1 .1 .1 .1 .0)
+    arc-next (s .args .guess .now) (s .pre .0) (toZ-ofZ w64 _ (sfits-of (t .before .before .before .d .given))) (t .loop .inv) (a .before .before .before .before .before .before .before .before .before .loop-test .taken) refl (toZ-ofZ w64 _ (sfits-of (a .before .before .before .before .before .look-arc-arg .given))) (sym (a .before .before .before .before .before .before .before .before .below-zero .ensures) ∙ a .before .before .before .before .before .before .before .if1 .left) (c .before .before .before .before .before .before .before .before .look-arc .ensures) (c .before .before .before .before .before .before .before .before .look-arc .kept .1 .1 .1 .1 .1 .1 .1 .1 .1 .0)
 
 same-length-6 : tie.Need-same-length-6 Inv-loop μ-loop
 same-length-6 c = search needs
@@ -129,7 +135,9 @@ same-length-10 : tie.Need-same-length-10 Inv-loop μ-loop
 same-length-10 c = search needs
 
 returns-2 : tie.Need-returns-2 Inv-loop μ-loop
-returns-2 c = row-ends (toZ-ofZ w64 _ (sfits-of (c .before .before .before .before .d .given))) (c .before .loop .inv) (c .loop-test .left) refl
+returns-2 c =
+    let s = c .before .before .before .before .before .before .before .before .before .before in
+    row-ends (lawful (s .args .guess .now)) (s .pre .0 .row) (entry-is (s .args .guess .now) (s .pre .0) (toZ-ofZ w64 _ (sfits-of (c .before .before .before .before .d .given)))) (c .before .loop .inv) (c .loop-test .left) refl
 
 pub look-row-spec : {M : Type 1} → statement M
 look-row-spec =

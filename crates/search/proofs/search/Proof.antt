@@ -4,16 +4,18 @@ use mathlib.Core.Path.{refl, sym, subst, _∙_}
 use Prim.Native.Nat.{ℕ, _<_}
 use native.Mathlib.Omega.{arith}
 use Rattle.rows.specs.Rows.{listsOf}
-use Rattle.search.specs.Search.{askedOf, memoryOf, Fresh}
-use Rattle.search.proofs.Cells.{fresh-good}
-use Rattle.search.proofs.Rows.{lengths}
-use Rattle.search.proofs.Turns.{Moment, toDo, starts, opens, finds, stops, next, rests, falls}
+use Rattle.turns.specs.Memory.{Fresh}
+use Rattle.turns.proofs.Cells.{fresh-good, same-long}
+use Rattle.turns.proofs.Turns.{rests}
+use Rattle.search.specs.Search.{askedOf, memoryOf, guided}
+use Rattle.search.proofs.Ints.{lawful}
+use Rattle.search.proofs.Turns.{Head, toDo, head-first, asks, found, refused, falls, head-next}
 use Rattle.search.proofs.search.Statement.{statement}
 use Rattle.search.proofs.search.Tie as tie
 
 abbrev Inv-loop : tie.InvT-loop
 Inv-loop m source target offsets heads weights guess dist₀ preds₀ heap₀ places₀ keys₀ size₀ takes₀ dist preds heap places keys size takes =
-    Moment (askedOf m source target guess) (listsOf offsets heads weights) (memoryOf dist preds heap places keys) size takes
+    Head (askedOf m source target guess) (listsOf offsets heads weights) (memoryOf dist preds heap places keys) size takes
 
 abbrev μ-loop : tie.MeasureT-loop
 μ-loop m source target offsets heads weights guess dist₀ preds₀ heap₀ places₀ keys₀ size₀ takes₀ dist preds heap places keys size takes =
@@ -22,43 +24,43 @@ abbrev μ-loop : tie.MeasureT-loop
 start-requires : tie.Need-start-requires Inv-loop μ-loop
 start-requires c κs =
     let s = c .before .before .before .before .before .before .before .before .before .before in
-    let long = fresh-good (s .pre .1) (s .args .guess .now) .longB in (
+    let long = fresh-good (lawful (s .args .guess .now)) (s .pre .1) .longB in (
       s .pre .0 .first,
-      (subst (λ (z : ℕ). Fresh z (memoryOf (s .args .dist .now) (s .args .preds .now) (s .args .heap .now) (s .args .places .now) (s .args .keys .now))) (sym long) (s .pre .1), subst (λ (z : ℕ). s .args .source < z) (sym long) (s .pre .0 .source)),
+      (subst (λ (z : ℕ). Fresh (guided (s .args .guess .now)) z (memoryOf (s .args .dist .now) (s .args .preds .now) (s .args .heap .now) (s .args .places .now) (s .args .keys .now))) (sym long) (s .pre .1), subst (λ (z : ℕ). s .args .source < z) (sym long) (s .pre .0 .source)),
     )
 
 loop-holds : tie.Need-loop-holds Inv-loop μ-loop
 loop-holds c =
     let t = c .before .before .before .before .before .before .before .before in
     let s = t .before .before .before .before .before .before .before .before .before .before .before in
-    starts _ _ (s .pre .0) (s .pre .1) (t .start .ensures) (t .start .kept .1 .1 .1 .1 .1 .0 ∙ fresh-good (s .pre .1) (s .args .guess .now) .longB)
+    head-first _ _ (s .pre .0) (s .pre .1) (t .start .ensures) (t .start .kept .1 .1 .1 .1 .1 .0 ∙ fresh-good (lawful (s .args .guess .now)) (s .pre .1) .longB)
 
 take-least-requires : tie.Need-take-least-requires Inv-loop μ-loop
-take-least-requires c κs = (c .before .before .before .before .loop .inv .good .bag, c .before .before .before .loop-test .taken)
+take-least-requires c κs = (c .before .before .before .before .loop .inv .moment .good .bag, c .before .before .before .loop-test .taken)
 
 add-takes : tie.Need-add-takes Inv-loop μ-loop
 add-takes c = omega (arith, c .before .before .before .before .before .before .before .before .before .loop .inv .few)
 
 same-length : tie.Need-same-length Inv-loop μ-loop
-same-length c = let t = c .before .before .before .before .before in let l = t .before .before .before .before .before in lengths (l .loop .inv .good) (l .before .before .before .before .before .before .before .before .before .before .before .before .before .before .before .before .before .before .before .before .pre .1) .dist
+same-length c = let t = c .before .before .before .before .before in let l = t .before .before .before .before .before in let s = l .before .before .before .before .before .before .before .before .before .before .before .before .before .before .before .before .before .before .before .before in same-long (l .loop .inv .moment .good) (fresh-good (lawful (s .args .guess .now)) (s .pre .1)) .dist
 
 same-length-2 : tie.Need-same-length-2 Inv-loop μ-loop
-same-length-2 c = let t = c .before .before .before .before .before in let l = t .before .before .before .before .before in lengths (l .loop .inv .good) (l .before .before .before .before .before .before .before .before .before .before .before .before .before .before .before .before .before .before .before .before .pre .1) .preds
+same-length-2 c = let t = c .before .before .before .before .before in let l = t .before .before .before .before .before in let s = l .before .before .before .before .before .before .before .before .before .before .before .before .before .before .before .before .before .before .before .before in same-long (l .loop .inv .moment .good) (fresh-good (lawful (s .args .guess .now)) (s .pre .1)) .preds
 
 same-length-3 : tie.Need-same-length-3 Inv-loop μ-loop
-same-length-3 c = let t = c .before .before .before .before .before in let l = t .before .before .before .before .before in t .take-least .kept .0 ∙ lengths (l .loop .inv .good) (l .before .before .before .before .before .before .before .before .before .before .before .before .before .before .before .before .before .before .before .before .pre .1) .heap
+same-length-3 c = let t = c .before .before .before .before .before in let l = t .before .before .before .before .before in let s = l .before .before .before .before .before .before .before .before .before .before .before .before .before .before .before .before .before .before .before .before in t .take-least .kept .0 ∙ same-long (l .loop .inv .moment .good) (fresh-good (lawful (s .args .guess .now)) (s .pre .1)) .heap
 
 same-length-4 : tie.Need-same-length-4 Inv-loop μ-loop
-same-length-4 c = let t = c .before .before .before .before .before in let l = t .before .before .before .before .before in t .take-least .kept .1 .0 ∙ lengths (l .loop .inv .good) (l .before .before .before .before .before .before .before .before .before .before .before .before .before .before .before .before .before .before .before .before .pre .1) .places
+same-length-4 c = let t = c .before .before .before .before .before in let l = t .before .before .before .before .before in let s = l .before .before .before .before .before .before .before .before .before .before .before .before .before .before .before .before .before .before .before .before in t .take-least .kept .1 .0 ∙ same-long (l .loop .inv .moment .good) (fresh-good (lawful (s .args .guess .now)) (s .pre .1)) .places
 
 same-length-5 : tie.Need-same-length-5 Inv-loop μ-loop
-same-length-5 c = let t = c .before .before .before .before .before in let l = t .before .before .before .before .before in lengths (l .loop .inv .good) (l .before .before .before .before .before .before .before .before .before .before .before .before .before .before .before .before .before .before .before .before .pre .1) .keys
+same-length-5 c = let t = c .before .before .before .before .before in let l = t .before .before .before .before .before in let s = l .before .before .before .before .before .before .before .before .before .before .before .before .before .before .before .before .before .before .before .before in same-long (l .loop .inv .moment .good) (fresh-good (lawful (s .args .guess .now)) (s .pre .1)) .keys
 
 returns : tie.Need-returns Inv-loop μ-loop
 returns c =
     let t = c .before .before .before .before .before in
     let l = t .before .before .before .before .before in
-    finds _ _ (l .before .before .before .before .before .before .before .before .before .before .before .before .before .before .before .before .before .before .before .before .pre .0) (l .loop .inv) (t .take-least .ensures .0) (t .take-least .ensures .1 .0) (t .take-least .ensures .1 .1) (t .take-least .kept .1 .0 ∙ l .loop .inv .good .longB) (c .if1 .taken) refl refl
+    found _ _ (l .before .before .before .before .before .before .before .before .before .before .before .before .before .before .before .before .before .before .before .before .pre .0) (l .loop .inv) (t .take-least .ensures .0) (t .take-least .ensures .1 .0) (t .take-least .ensures .1 .1) (t .take-least .kept .1 .0) (c .if1 .taken) refl refl
 
 sub-look-row : tie.Need-sub-look-row Inv-loop μ-loop
 sub-look-row c = c .before .before .before .before .before .before .before .before .before .loop-test .taken
@@ -67,58 +69,58 @@ look-row-requires : tie.Need-look-row-requires Inv-loop μ-loop
 look-row-requires c κs =
     let t = c .before .before .before .before .before .before .before .before .before .before in
     let l = t .before .before .before .before .before in
-    opens _ _ (l .before .before .before .before .before .before .before .before .before .before .before .before .before .before .before .before .before .before .before .before .pre .0) (l .loop .inv) (t .take-least .ensures .0) (t .take-least .ensures .1 .0) (t .take-least .ensures .1 .1) (t .take-least .kept .1 .0 ∙ l .loop .inv .good .longB)
+    asks _ _ (l .before .before .before .before .before .before .before .before .before .before .before .before .before .before .before .before .before .before .before .before .pre .0) (l .loop .inv) (t .take-least .ensures .0) (t .take-least .ensures .1 .0) (t .take-least .ensures .1 .1) (t .take-least .kept .1 .0)
 
 same-length-6 : tie.Need-same-length-6 Inv-loop μ-loop
-same-length-6 c = lengths (c .before .before .before .before .before .before .before .before .before .look-row .ensures .good) (c .before .before .before .before .before .before .before .before .before .before .before .before .before .before .before .before .before .before .before .before .before .before .before .before .before .before .before .before .before .before .before .before .before .before .before .before .before .before .before .before .before .before .before .before .before .pre .1) .dist
+same-length-6 c = let s = c .before .before .before .before .before .before .before .before .before .before .before .before .before .before .before .before .before .before .before .before .before .before .before .before .before .before .before .before .before .before .before .before .before .before .before .before .before .before .before .before .before .before .before .before .before in same-long (c .before .before .before .before .before .before .before .before .before .look-row .ensures .good) (fresh-good (lawful (s .args .guess .now)) (s .pre .1)) .dist
 
 same-length-7 : tie.Need-same-length-7 Inv-loop μ-loop
-same-length-7 c = lengths (c .before .before .before .before .before .before .before .before .before .look-row .ensures .good) (c .before .before .before .before .before .before .before .before .before .before .before .before .before .before .before .before .before .before .before .before .before .before .before .before .before .before .before .before .before .before .before .before .before .before .before .before .before .before .before .before .before .before .before .before .before .pre .1) .preds
+same-length-7 c = let s = c .before .before .before .before .before .before .before .before .before .before .before .before .before .before .before .before .before .before .before .before .before .before .before .before .before .before .before .before .before .before .before .before .before .before .before .before .before .before .before .before .before .before .before .before .before in same-long (c .before .before .before .before .before .before .before .before .before .look-row .ensures .good) (fresh-good (lawful (s .args .guess .now)) (s .pre .1)) .preds
 
 same-length-8 : tie.Need-same-length-8 Inv-loop μ-loop
-same-length-8 c = lengths (c .before .before .before .before .before .before .before .before .before .look-row .ensures .good) (c .before .before .before .before .before .before .before .before .before .before .before .before .before .before .before .before .before .before .before .before .before .before .before .before .before .before .before .before .before .before .before .before .before .before .before .before .before .before .before .before .before .before .before .before .before .pre .1) .heap
+same-length-8 c = let s = c .before .before .before .before .before .before .before .before .before .before .before .before .before .before .before .before .before .before .before .before .before .before .before .before .before .before .before .before .before .before .before .before .before .before .before .before .before .before .before .before .before .before .before .before .before in same-long (c .before .before .before .before .before .before .before .before .before .look-row .ensures .good) (fresh-good (lawful (s .args .guess .now)) (s .pre .1)) .heap
 
 same-length-9 : tie.Need-same-length-9 Inv-loop μ-loop
-same-length-9 c = lengths (c .before .before .before .before .before .before .before .before .before .look-row .ensures .good) (c .before .before .before .before .before .before .before .before .before .before .before .before .before .before .before .before .before .before .before .before .before .before .before .before .before .before .before .before .before .before .before .before .before .before .before .before .before .before .before .before .before .before .before .before .before .pre .1) .places
+same-length-9 c = let s = c .before .before .before .before .before .before .before .before .before .before .before .before .before .before .before .before .before .before .before .before .before .before .before .before .before .before .before .before .before .before .before .before .before .before .before .before .before .before .before .before .before .before .before .before .before in same-long (c .before .before .before .before .before .before .before .before .before .look-row .ensures .good) (fresh-good (lawful (s .args .guess .now)) (s .pre .1)) .places
 
 same-length-10 : tie.Need-same-length-10 Inv-loop μ-loop
-same-length-10 c = lengths (c .before .before .before .before .before .before .before .before .before .look-row .ensures .good) (c .before .before .before .before .before .before .before .before .before .before .before .before .before .before .before .before .before .before .before .before .before .before .before .before .before .before .before .before .before .before .before .before .before .before .before .before .before .before .before .before .before .before .before .before .before .pre .1) .keys
+same-length-10 c = let s = c .before .before .before .before .before .before .before .before .before .before .before .before .before .before .before .before .before .before .before .before .before .before .before .before .before .before .before .before .before .before .before .before .before .before .before .before .before .before .before .before .before .before .before .before .before in same-long (c .before .before .before .before .before .before .before .before .before .look-row .ensures .good) (fresh-good (lawful (s .args .guess .now)) (s .pre .1)) .keys
 
 returns-2 : tie.Need-returns-2 Inv-loop μ-loop
 returns-2 c =
     let t = c .before .before .before .before .before .before .before .before .before .before .before .before .before .before .before .before .before .before .before .before in
     let l = t .before .before .before .before .before in
-    stops _ _ (l .before .before .before .before .before .before .before .before .before .before .before .before .before .before .before .before .before .before .before .before .pre .0) (l .loop .inv) (t .take-least .ensures .0) (t .take-least .ensures .1 .0) (t .take-least .ensures .1 .1) (t .take-least .kept .1 .0 ∙ l .loop .inv .good .longB) (c .before .before .before .before .before .before .before .before .before .before .before .before .before .before .before .if1 .left) (c .before .before .before .before .before .before .before .before .before .look-row .ensures) (c .if2 .taken) refl refl
+    refused _ _ (l .before .before .before .before .before .before .before .before .before .before .before .before .before .before .before .before .before .before .before .before .pre .0) (l .loop .inv) (t .take-least .ensures .0) (t .take-least .ensures .1 .0) (t .take-least .ensures .1 .1) (t .take-least .kept .1 .0) (c .before .before .before .before .before .before .before .before .before .before .before .before .before .before .before .if1 .left) (c .before .before .before .before .before .before .before .before .before .look-row .ensures) (c .if2 .taken) refl refl
 
 loop-less : tie.Need-loop-less Inv-loop μ-loop
 loop-less c =
     let t = c .before .before .before .before .before .before .before .before .before .before .before .before .before .before .before .before .before .before .before .before in
     let l = t .before .before .before .before .before in
-    falls _ _ (l .before .before .before .before .before .before .before .before .before .before .before .before .before .before .before .before .before .before .before .before .pre .0) (l .loop .inv) (t .take-least .ensures .0) (t .take-least .ensures .1 .0) (t .take-least .ensures .1 .1) (t .take-least .kept .1 .0 ∙ l .loop .inv .good .longB) (c .before .before .before .before .before .before .before .before .before .before .before .before .before .before .before .if1 .left) (c .before .before .before .before .before .before .before .before .before .look-row .ensures) (c .if2 .left)
+    falls _ _ (l .before .before .before .before .before .before .before .before .before .before .before .before .before .before .before .before .before .before .before .before .pre .0) (l .loop .inv) (t .take-least .ensures .0) (t .take-least .ensures .1 .0) (t .take-least .ensures .1 .1) (t .take-least .kept .1 .0) (c .before .before .before .before .before .before .before .before .before .before .before .before .before .before .before .if1 .left) (c .before .before .before .before .before .before .before .before .before .look-row .ensures) (c .if2 .left)
 
 loop-again : tie.Need-loop-again Inv-loop μ-loop
 loop-again c =
     let t = c .before .before .before .before .before .before .before .before .before .before .before .before .before .before .before .before .before .before .before .before in
     let l = t .before .before .before .before .before in
-    next _ _ (l .before .before .before .before .before .before .before .before .before .before .before .before .before .before .before .before .before .before .before .before .pre .0) (l .loop .inv) (t .take-least .ensures .0) (t .take-least .ensures .1 .0) (t .take-least .ensures .1 .1) (t .take-least .kept .1 .0 ∙ l .loop .inv .good .longB) (c .before .before .before .before .before .before .before .before .before .before .before .before .before .before .before .if1 .left) (c .before .before .before .before .before .before .before .before .before .look-row .ensures) (c .if2 .left)
+    head-next _ _ (l .before .before .before .before .before .before .before .before .before .before .before .before .before .before .before .before .before .before .before .before .pre .0) (l .loop .inv) (t .take-least .ensures .0) (t .take-least .ensures .1 .0) (t .take-least .ensures .1 .1) (t .take-least .kept .1 .0) (c .before .before .before .before .before .before .before .before .before .before .before .before .before .before .before .if1 .left) (c .before .before .before .before .before .before .before .before .before .look-row .ensures) (c .if2 .left)
 
 same-length-11 : tie.Need-same-length-11 Inv-loop μ-loop
-same-length-11 c = lengths (c .before .loop .inv .good) (c .before .before .before .before .before .before .before .before .before .before .before .before .before .before .before .before .before .before .before .before .before .pre .1) .dist
+same-length-11 c = let s = c .before .before .before .before .before .before .before .before .before .before .before .before .before .before .before .before .before .before .before .before .before in same-long (c .before .loop .inv .moment .good) (fresh-good (lawful (s .args .guess .now)) (s .pre .1)) .dist
 
 same-length-12 : tie.Need-same-length-12 Inv-loop μ-loop
-same-length-12 c = lengths (c .before .loop .inv .good) (c .before .before .before .before .before .before .before .before .before .before .before .before .before .before .before .before .before .before .before .before .before .pre .1) .preds
+same-length-12 c = let s = c .before .before .before .before .before .before .before .before .before .before .before .before .before .before .before .before .before .before .before .before .before in same-long (c .before .loop .inv .moment .good) (fresh-good (lawful (s .args .guess .now)) (s .pre .1)) .preds
 
 same-length-13 : tie.Need-same-length-13 Inv-loop μ-loop
-same-length-13 c = lengths (c .before .loop .inv .good) (c .before .before .before .before .before .before .before .before .before .before .before .before .before .before .before .before .before .before .before .before .before .pre .1) .heap
+same-length-13 c = let s = c .before .before .before .before .before .before .before .before .before .before .before .before .before .before .before .before .before .before .before .before .before in same-long (c .before .loop .inv .moment .good) (fresh-good (lawful (s .args .guess .now)) (s .pre .1)) .heap
 
 same-length-14 : tie.Need-same-length-14 Inv-loop μ-loop
-same-length-14 c = lengths (c .before .loop .inv .good) (c .before .before .before .before .before .before .before .before .before .before .before .before .before .before .before .before .before .before .before .before .before .pre .1) .places
+same-length-14 c = let s = c .before .before .before .before .before .before .before .before .before .before .before .before .before .before .before .before .before .before .before .before .before in same-long (c .before .loop .inv .moment .good) (fresh-good (lawful (s .args .guess .now)) (s .pre .1)) .places
 
 same-length-15 : tie.Need-same-length-15 Inv-loop μ-loop
-same-length-15 c = lengths (c .before .loop .inv .good) (c .before .before .before .before .before .before .before .before .before .before .before .before .before .before .before .before .before .before .before .before .before .pre .1) .keys
+same-length-15 c = let s = c .before .before .before .before .before .before .before .before .before .before .before .before .before .before .before .before .before .before .before .before .before in same-long (c .before .loop .inv .moment .good) (fresh-good (lawful (s .args .guess .now)) (s .pre .1)) .keys
 
 returns-3 : tie.Need-returns-3 Inv-loop μ-loop
-returns-3 c = rests _ _ (c .before .before .before .before .before .before .before .before .before .before .before .before .before .before .before .before .before .before .before .before .before .pre .0) (c .before .loop .inv) (c .loop-test .left) refl refl
+returns-3 c = let s = c .before .before .before .before .before .before .before .before .before .before .before .before .before .before .before .before .before .before .before .before .before in rests _ _ _ _ _ (lawful (s .args .guess .now)) (s .pre .0 .rows) (s .pre .0 .source) (c .before .loop .inv .moment) (c .loop-test .left) refl refl
 
 pub search-spec : {M : Type 1} → statement M
 search-spec =

@@ -14,7 +14,8 @@ use Rattle.clean.specs.None.{noneI64, noneU32}
 use Rattle.bag.specs.Content.{contentOf}
 use Rattle.bag.specs.Ints.{Near}
 use Rattle.search.specs.Search.{keyOf}
-use Rattle.search.proofs.Cells.{key-near, empty-bag, empty-lower}
+use Rattle.turns.proofs.Cells.{empty-bag, empty-lower}
+use Rattle.search.proofs.Ints.{key-near}
 use Rattle.search.proofs.start.Statement.{statement}
 use Rattle.search.proofs.start.Tie as tie
 use Rattle.search.proofs.start.Reads as reads
