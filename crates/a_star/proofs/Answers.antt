@@ -42,7 +42,8 @@ use Rattle.rows.specs.Kept.{KeptLists}
 use Rattle.rows.specs.Scratch.{wiped}
 use Rattle.rows.proofs.Kept.{needs-kept}
 use Rattle.rows.proofs.Maps.{ready-ints, net-room, arcs-are, net-sound, net-kept, row-small}
-use Rattle.search.specs.Search.{keyOf, targetOf, askedOf, settingOf, Fair, Fit, Memory, memoryOf, Shows}
+use Rattle.turns.specs.Memory.{Memory, memoryOf, Shows}
+use Rattle.search.specs.Search.{keyOf, targetOf, askedOf, settingOf, Fair, Fit}
 use Rattle.search.specs.Runs.{firsts, Roomy, KeptMemory, Ran}
 use Rattle.search.proofs.Runs.{shown-pred}
 use Rattle.a_star.specs.Promise.{Question, questionOf, Answer, Scratch, Buffers, fairGuess, Fine, written, wipedMemory, wipedAll, searchOf, Says, bad, unreached, reached, Outcome}
@@ -107,7 +108,7 @@ module _ {m n : ℕ} {d : Bool} {xs ys : List ℕ} {cs : List ℤ} {s t : ℕ} {
     }
 
     -- and the search over it is the one over the map
-    pub sought : {M : Memory} {number takes : ℕ} → Ran (askedOf m s t h) nb (b .memory) M number takes → Sought (Arc d (links n xs ys cs)) m (arcRoom d n) (questionOf s t h) b (record { rows = nb; memory = M }) number
+    pub sought : {M : Memory ℤ} {number takes : ℕ} → Ran (askedOf m s t h) nb (b .memory) M number takes → Sought (Arc d (links n xs ys cs)) m (arcRoom d n) (questionOf s t h) b (record { rows = nb; memory = M }) number
     sought z = record {
       end = z .searched .end;
       ends =
@@ -173,7 +174,7 @@ module _ (g : Net ℤ) (q : Question) {b : Buffers} (w : Fine g q b) {x : End �
   chain-few d e c = hops-few (nodesOf g) (λ v y p. present-in g v (walk-has g (λ u z k a. arc-has g (w .inside) u z k a .1) (got q ends v y p .walk) (w .source))) d e c
 
   -- the lists after the search
-  module _ (M : Memory) (long-preds : m ≤ length (M .preds)) (shows : Shows x (firsts m M)) where
+  module _ (M : Memory ℤ) (long-preds : m ≤ length (M .preds)) (shows : Shows noneI64 x (firsts m M)) where
     -- the target's distance, read
     dist-is : getD (M .dist) (q .target) noneI64 ≡ shown noneI64 (x .dist (q .target))
     dist-is = sym (getD-take m (M .dist) (q .target) noneI64 target-in) ∙ shows .dist (q .target)
@@ -251,14 +252,14 @@ wiped-rows : {m a : ℕ} {s t : Lists ℤ} → KeptLists m a s t → wiped m a (
 wiped-rows {m} {a} {s} {t} k = λ i. listsOf (filled-same (m + 1) 0 (t .offsets) (s .offsets) (k .offsets .rest) i) (filled-same a 0 (t .heads) (s .heads) (k .heads .rest) i) (filled-same a (pos 0) (t .weights) (s .weights) (k .weights .rest) i)
 
 -- so in the lists of the search
-wiped-memory : {m : ℕ} {M K : Memory} → KeptMemory m M K → wipedMemory m K ≡ wipedMemory m M
+wiped-memory : {m : ℕ} {M K : Memory ℤ} → KeptMemory m M K → wipedMemory m K ≡ wipedMemory m M
 wiped-memory {m} {M} {K} k =
     λ i.
     memoryOf (filled-same m (pos 0) (K .dist) (M .dist) (k .dist .rest) i) (filled-same m 0 (K .preds) (M .preds) (k .preds .rest) i) (filled-same m 0 (K .heap) (M .heap) (k .heap .rest) i) (filled-same m 0 (K .places) (M .places) (k .places .rest) i)
     (filled-same m (pos 0) (K .keys) (M .keys) (k .keys .rest) i)
 
 -- lists of the same lengths have the same room
-roomy-kept : {m : ℕ} {M K : Memory} → Roomy m M → KeptMemory m M K → Roomy m K
+roomy-kept : {m : ℕ} {M K : Memory ℤ} → Roomy m M → KeptMemory m M K → Roomy m K
 roomy-kept w k = record {
   dist = rw (k .dist .long) (w .dist);
   preds = rw (k .preds .long) (w .preds);

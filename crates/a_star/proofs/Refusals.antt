@@ -18,7 +18,8 @@ use Rattle.net.specs.Net.{Net, wholeNet, insideNet, has, sizeOf}
 use Rattle.rows.specs.Scratch.{hasRoom}
 use Rattle.rows.specs.Kept.{Needs}
 use Rattle.rows.proofs.Kept.{has-needs}
-use Rattle.search.specs.Search.{Memory, Fair}
+use Rattle.turns.specs.Memory.{Memory}
+use Rattle.search.specs.Search.{Fair}
 use Rattle.search.specs.Runs.{Roomy}
 use Rattle.a_star.specs.Promise.{Question, without, Buffers, hasMemory, longEnough, enough, isFair, fairAt, fairBelow, fairGuess, Fine, Promise, short, outside, noSource, noTarget, farGuess}
 use Rattle.a_star.specs.Parts.{questionNo, refusalNo}
@@ -126,12 +127,12 @@ pub record Lengths (m a : ℕ) (h : List ℤ) (b : Buffers) : Type 0 where
   pub memory : Roomy m (b .scratch .memory)
 
 -- the last test of the lists of the search
-pub memory-last : (m : ℕ) (M : Memory) → m ≤ length (M .dist) → m ≤ length (M .preds) → m ≤ length (M .heap) → m ≤ length (M .places) → leb m (length (M .keys)) ≡ hasMemory m M
+pub memory-last : (m : ℕ) (M : Memory ℤ) → m ≤ length (M .dist) → m ≤ length (M .preds) → m ≤ length (M .heap) → m ≤ length (M .places) → leb m (length (M .keys)) ≡ hasMemory m M
 unfolding hasMemory
 memory-last m M d p h i = rw (le-leb m (length (M .dist)) d, le-leb m (length (M .preds)) p, le-leb m (length (M .heap)) h, le-leb m (length (M .places)) i)
 
 -- the lists of the search are long enough
-has-memory : (m : ℕ) (M : Memory) → hasMemory m M ≡ true → Roomy m M
+has-memory : (m : ℕ) (M : Memory ℤ) → hasMemory m M ≡ true → Roomy m M
 unfolding hasMemory
 has-memory m M e =
     let e1 = and-right (leb m (length (M .dist))) _ e in

@@ -13,7 +13,7 @@ use Rattle.pending.specs.Setting.{End}
 use Rattle.pending.specs.OnePlace.{begin, Ends}
 use Rattle.net.specs.Net.{Net, netOf, insideNet, has}
 use Rattle.rows.specs.Kept.{KeptLists, Needs}
-use Rattle.search.specs.Search.{Shows}
+use Rattle.turns.specs.Memory.{Shows}
 use Rattle.search.specs.Runs.{firsts, Roomy, KeptMemory}
 use Rattle.a_star.specs.Promise.{Question, Answer, answerOf, without, Scratch, Buffers, enough, fairGuess, Fine, written, searchOf}
 use Rattle.a_star.specs.Trail.{trail, GoesBack}
@@ -46,7 +46,7 @@ pub record Sought (Arc : ℕ → ℕ → ℤ → Type 0) (m a : ℕ) (q : Questi
   pub end : End ℤ
   pub ends : Ends (searchOf q) Arc (begin (searchOf q)) 0 end
   pub is : number ≡ end .number
-  pub shows : number ≡ 0 → Shows end (firsts m (t .memory))
+  pub shows : number ≡ 0 → Shows noneI64 end (firsts m (t .memory))
   pub rows : KeptLists m a (s .rows) (t .rows)
   pub memory : KeptMemory m (s .memory) (t .memory)
 

@@ -18,7 +18,7 @@ use Rattle.pending.specs.Ints.{aStar}
 use Rattle.net.specs.Net.{Net, ArcOf, wholeNet, insideNet, has, sizeOf}
 use Rattle.rows.specs.Rows.{Lists, listsOf}
 use Rattle.rows.specs.Scratch.{hasRoom, wiped}
-use Rattle.search.specs.Search.{Memory, memoryOf}
+use Rattle.turns.specs.Memory.{Memory, memoryOf}
 
 -- the question: where from, where to, and a heuristic for each index
 pub record Question : Type 0 where
@@ -47,7 +47,7 @@ without k = answerOf k noneI64 0
 -- the lent scratch: the neighbour list and the lists that the search writes
 pub record Scratch : Type 0 where
   pub rows : Lists ℤ
-  pub memory : Memory
+  pub memory : Memory ℤ
 
 -- the lent buffers: the path and the scratch
 pub record Buffers : Type 0 where
@@ -64,7 +64,7 @@ buffersOf l o h w d p q i k = record { path = l; scratch = scratchOf o h w d p q
 
 -- ---- the refusals
 -- do the lists of the search have m entries each?
-unfoldable pub hasMemory : ℕ → Memory → Bool
+unfoldable pub hasMemory : ℕ → Memory ℤ → Bool
 hasMemory m M = leb m (length (M .dist)) && (leb m (length (M .preds)) && (leb m (length (M .heap)) && (leb m (length (M .places)) && leb m (length (M .keys)))))
 
 -- is each slice as long as its part used? Of scratch that is 6m + 1 + 2a entries
@@ -106,7 +106,7 @@ unfoldable pub written : List ℕ → List ℕ → List ℕ
 written l p = l ++ drop (length l) p
 
 -- the needed part of each scratch slice is all zero, and the rest as before
-abbrev pub wipedMemory : ℕ → Memory → Memory
+abbrev pub wipedMemory : ℕ → Memory ℤ → Memory ℤ
 wipedMemory m M = memoryOf (filled m (pos 0) (M .dist)) (filled m 0 (M .preds)) (filled m 0 (M .heap)) (filled m 0 (M .places)) (filled m (pos 0) (M .keys))
 
 -- so of all scratch

@@ -13,6 +13,7 @@ use lib.ListN.{length, getD, set, length-set}
 use lib.Seq.{getD-set-same, getD-set-other}
 use Rattle.whole.specs.Zed.{_⊕_, P, N, zed, sum}
 use Rattle.clean.specs.None.{noneI64}
+use Rattle.clean.specs.Better.{betterThan}
 use Rattle.walks.specs.Walk.{NegativeFrom}
 use Rattle.walks.specs.Hist.{Low, Hist, Falls}
 use Rattle.walks.proofs.Fall.{too-long}
@@ -22,7 +23,7 @@ use Rattle.rows.specs.RowArc.{RowArc}
 use Rattle.rows.specs.Kept.{Kept}
 use Rattle.rows.proofs.Graph as graph
 use Rattle.rows.proofs.Kept.{kept-none, kept-set}
-use Rattle.bellman_ford.specs.Search.{Memory, memoryOf, Wide, KeptMemory, Fit, Label, betterThan, slotOf, Good, Held, Open, Safe, Pushed, full, waiting, pushed, Ring, toDo}
+use Rattle.bellman_ford.specs.Search.{Memory, memoryOf, Wide, KeptMemory, Fit, Label, slotOf, Good, Held, Open, Safe, Pushed, full, waiting, pushed, Ring, toDo}
 use Rattle.bellman_ford.proofs.Ring.{slot-below, full-waits, push-done}
 use Rattle.bellman_ford.proofs.Labels.{worse-is, within, both-small, label-new, label-other, label-back, label-is, label-kinds, label-falls, better-label, lighter}
 

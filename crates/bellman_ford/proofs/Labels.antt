@@ -15,23 +15,17 @@ use lib.Seq.{getD-set-same, getD-set-other}
 use Rattle.whole.specs.Zed.{P, N, zed}
 use Rattle.whole.proofs.Cases.{clash}
 use Rattle.clean.specs.None.{noneI64}
+use Rattle.clean.specs.Better.{betterThan}
+use Rattle.clean.proofs.Better.{better-over, better-none}
 use Rattle.walks.specs.Hist.{Low, Hist, Falls}
 use Rattle.walks.specs.Weigh.{weigh}
 use Rattle.walks.proofs.Hist.{trail-within}
 use Rattle.walks.proofs.Weigh.{weigh-set}
 use Rattle.rows.specs.Rows.{Lists}
 use Rattle.rows.specs.RowArc.{RowArc}
-use Rattle.bellman_ford.specs.Search.{Fit, Label, betterThan, weightOf}
+use Rattle.bellman_ford.specs.Search.{Fit, Label, weightOf}
 
 -- ---- the test
-pub better-over : (n old : ℤ) → ltZ noneI64 old ≡ true → ltZ n old ≡ betterThan n old
-unfolding betterThan
-better-over n old e = rw e
-
-pub better-none : (n old : ℤ) → ltZ noneI64 old ≡ false → true ≡ betterThan n old
-unfolding betterThan
-better-none n old e = rw e
-
 pub better-is : (n old : ℤ) → betterThan n old ≡ true → noneI64 <ℤ old → n <ℤ old
 better-is n old b h = go (ltZ noneI64 old) refl
   where

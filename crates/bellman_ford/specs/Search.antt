@@ -11,6 +11,7 @@ use lib.Signed.{ltZ, _<ℤ_}
 use lib.ListN.{length, getD, set}
 use Rattle.whole.specs.Zed.{_⊕_, P, N}
 use Rattle.clean.specs.None.{noneI64}
+use Rattle.clean.specs.Better.{betterThan}
 use Rattle.walks.specs.Pigeon.{In}
 use Rattle.walks.specs.Walk.{NoNeg, NegativeFrom, Entry}
 use Rattle.walks.specs.Hist.{Low, Hist}
@@ -58,10 +59,6 @@ pub record Fit (m p s : ℕ) (nb : Lists ℤ) : Type 0 where
 -- v has the label d
 abbrev pub Label : ℕ → List ℤ → ℕ → ℤ → Type 0
 Label m l v d = (v < m) × (getD l v (pos 0) ≡ d) × (noneI64 <ℤ d)
-
--- is n better than what stands there?
-unfoldable pub betterThan : ℤ → ℤ → Bool
-betterThan n old = cond (ltZ noneI64 old) (ltZ n old) true
 
 -- the place of what stands i after the first, in a ring of m places
 unfoldable pub slotOf : ℕ → ℕ → ℕ → ℕ

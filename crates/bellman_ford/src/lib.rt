@@ -6,11 +6,12 @@ ghost use Prim.Native.Nat.{_≤_, _<_};
 ghost use lib.IntN.{pos};
 ghost use lib.ListN.{length, getD, set};
 ghost use Rattle.clean.specs.Fill.{filled};
+ghost use Rattle.clean.specs.Better.{betterThan};
 ghost use Rattle.rows.specs.Rows.{listsOf};
 ghost use Rattle.net.specs.Net.{netOf};
 ghost use Rattle.bellman_ford.specs.Promise.{Promise, buffersOf, scratchOf, longEnough, wipedAll};
 ghost use Rattle.bellman_ford.specs.Parts.{refusalNo, Room, Ripe, Solved};
-ghost use Rattle.bellman_ford.specs.Search.{slotOf, betterThan, Pushed, Safe, Looked, Fit, Open, RowDone, Fresh, Searched, memoryOf};
+ghost use Rattle.bellman_ford.specs.Search.{slotOf, Pushed, Safe, Looked, Fit, Open, RowDone, Fresh, Searched, memoryOf};
 
 // What looking at an arc or at a row leaves: was a path too long, and how many indices wait.
 struct Turn {

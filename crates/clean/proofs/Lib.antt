@@ -1,2 +1,3 @@
 pub mod Filled
 pub mod Filling
+pub mod Better

@@ -12,7 +12,7 @@ use Rattle.net.specs.Net.{Net, netOf, arcRoom}
 use Rattle.rows.specs.Rows.{Lists, Ready, Room, Rows, Small, arcsInts}
 use Rattle.rows.specs.RowArc.{RowArc}
 use Rattle.rows.proofs.Maps.{ready-ints, arcs-are, net-sound, net-kept, net-room, row-small}
-use Rattle.search.specs.Search.{Memory}
+use Rattle.turns.specs.Memory.{Memory}
 use Rattle.search.specs.Runs.{Cheap, KeptMemory, Reached}
 use Rattle.search.proofs.Runs.{reached-over}
 use Rattle.dijkstra.specs.Promise.{Buffers}
@@ -40,6 +40,6 @@ module _ {m n : ℕ} {d : Bool} {xs ys : List ℕ} {cs : List ℤ} {s : ℕ} {b 
     }
 
     -- the search over the list answers over the map's arcs
-    pub solved : {M : Memory} {no : ℕ} → Reached (RowArc m nb) m s (b .dist) (M .dist) no → KeptMemory m (memory b) M
+    pub solved : {M : Memory ℤ} {no : ℕ} → Reached (RowArc m nb) m s (b .dist) (M .dist) no → KeptMemory m (memory b) M
         → Solved (Arc d (links n xs ys cs)) m (arcRoom d n) s b (record { dist = M .dist; scratch = record { rows = nb; preds = M .preds; heap = M .heap; places = M .places; keys = M .keys } }) no
     solved w k = record { answer = reached-over (λ u v c. arcs-are g (ripe .inside) r u v c .0) (λ u v c. arcs-are g (ripe .inside) r u v c .1) w; rows = net-kept g (ripe .inside) r; rest = k }

@@ -8,7 +8,7 @@ use lib.IntN.{ℤ}
 use lib.ListN.{length}
 use Rattle.net.specs.Net.{Net, netOf, wholeNet, insideNet, has, arcRoom}
 use Rattle.rows.specs.Kept.{KeptLists, Needs}
-use Rattle.search.specs.Search.{Memory, memoryOf}
+use Rattle.turns.specs.Memory.{Memory, memoryOf}
 use Rattle.search.specs.Runs.{Roomy, KeptMemory, Reached}
 use Rattle.dijkstra.specs.Promise.{Scratch, Buffers, enough}
 
@@ -25,7 +25,7 @@ pub record Room (m a : ℕ) (s : Scratch) : Type 0 where
   pub keys : m ≤ length (s .keys)
 
 -- the lists that the search writes
-abbrev pub memory : Buffers → Memory
+abbrev pub memory : Buffers → Memory ℤ
 memory b = memoryOf (b .dist) (b .scratch .preds) (b .scratch .heap) (b .scratch .places) (b .scratch .keys)
 
 -- what a table must be before it is solved: by some marks it is not refused

@@ -26,7 +26,7 @@ use Rattle.net.proofs.Lists.{count-yes, count-no}
 use Rattle.rows.specs.Rows.{Lists}
 use Rattle.rows.specs.RowArc.{RowArc}
 use Rattle.rows.proofs.Kept.{kept-none, kept-more}
-use Rattle.search.specs.Search.{Memory}
+use Rattle.turns.specs.Memory.{Memory}
 use Rattle.search.specs.Runs.{Roomy, KeptMemory, Cheap, Reached, done, bad}
 use Rattle.matrix.proofs.Matrix.{square-small}
 use Rattle.johnson.specs.Rounds.{label, Deep}
@@ -138,13 +138,13 @@ found w (bad e b) v h =
 
 -- ---- the lists that searches write keep their rests
 module _ {m : ℕ} where
-  pub memory-none : {M : Memory} → KeptMemory m M M
+  pub memory-none : {M : Memory ℤ} → KeptMemory m M M
   memory-none = record { dist = kept-none; preds = kept-none; heap = kept-none; places = kept-none; keys = kept-none }
 
-  pub memory-more : {M M′ M″ : Memory} → KeptMemory m M M′ → KeptMemory m M′ M″ → KeptMemory m M M″
+  pub memory-more : {M M′ M″ : Memory ℤ} → KeptMemory m M M′ → KeptMemory m M′ M″ → KeptMemory m M M″
   memory-more p q = record { dist = kept-more (p .dist) (q .dist); preds = kept-more (p .preds) (q .preds); heap = kept-more (p .heap) (q .heap); places = kept-more (p .places) (q .places); keys = kept-more (p .keys) (q .keys) }
 
-  pub memory-roomy : {M M′ : Memory} → Roomy m M → KeptMemory m M M′ → Roomy m M′
+  pub memory-roomy : {M M′ : Memory ℤ} → Roomy m M → KeptMemory m M M′ → Roomy m M′
   memory-roomy w k = record {
     dist = omega (arith, w .dist, k .dist .long);
     preds = omega (arith, w .preds, k .preds .long);
@@ -222,19 +222,19 @@ module _ {m p : ℕ} {marks : List ℕ} {nb : Lists ℤ} {h matrix : List ℤ} (
       row-not-counted = is ∙ sym (count-no m marks u l e)
 
 -- while the rows are made: u indices are passed, i of them present
-pub record Filling (m p : ℕ) (marks : List ℕ) (nb : Lists ℤ) (h before after : List ℤ) (M M′ : Memory) (i u : ℕ) : Type 0 where
+pub record Filling (m p : ℕ) (marks : List ℕ) (nb : Lists ℤ) (h before after : List ℤ) (M M′ : Memory ℤ) (i u : ℕ) : Type 0 where
   pub within : u ≤ m
   pub count : i ≡ rank m marks u
   pub filled : Filled m p u marks nb h before after
   pub kept : KeptMemory m M M′
 
 module _ {m p : ℕ} {marks : List ℕ} {nb : Lists ℤ} {h before : List ℤ} (can : CanFill m p marks nb h before) where
-  pub fill-first : {M : Memory} → Filling m p marks nb h before before M M 0 0
+  pub fill-first : {M : Memory ℤ} → Filling m p marks nb h before before M M 0 0
   fill-first = record { within = omega arith; count = refl; filled = record { long = refl; each = λ u v k b q e. absurd (omega arith); rest = λ x k. refl }; kept = memory-none }
 
   -- the rows may go on
   pub can-next : {after : List ℤ} → length after ≡ length before → CanFill m p marks nb h after
   can-next e = record { width = can .width; marked = can .marked; even = can .even; long = can .long; deep = can .deep; room = omega (arith, can .room) }
 
-  pub fill-last : {after : List ℤ} {M M′ : Memory} {i u : ℕ} → Filling m p marks nb h before after M M′ i u → m ≤ u → Filled m p m marks nb h before after
+  pub fill-last : {after : List ℤ} {M M′ : Memory ℤ} {i u : ℕ} → Filling m p marks nb h before after M M′ i u → m ≤ u → Filled m p m marks nb h before after
   fill-last {after} {u} w k = let e : u ≡ m = omega (arith, w .within) in subst (λ (x : ℕ). Filled m p x marks nb h before after) e (w .filled)

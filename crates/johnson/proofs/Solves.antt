@@ -17,7 +17,7 @@ use Rattle.net.proofs.Nodes.{node-marked, rank-of, width-most}
 use Rattle.rows.specs.Rows.{Lists, listsOf}
 use Rattle.rows.specs.Kept.{Kept}
 use Rattle.rows.proofs.Kept.{kept-none}
-use Rattle.search.specs.Search.{memoryOf}
+use Rattle.turns.specs.Memory.{memoryOf}
 use Rattle.search.specs.Runs.{KeptMemory}
 use Rattle.matrix.specs.Matrix.{square, Matrix}
 use Rattle.johnson.specs.Promise.{Scratch, scratchOf}

@@ -16,7 +16,7 @@ use Rattle.net.specs.Net.{Net, ArcOf, wholeNet, insideNet, sizeOf, rising, widt
 use Rattle.rows.specs.Rows.{Lists}
 use Rattle.rows.specs.RowArc.{RowArc, Sound}
 use Rattle.rows.specs.Kept.{Kept, KeptLists, Needs}
-use Rattle.search.specs.Search.{Memory, memoryOf}
+use Rattle.turns.specs.Memory.{Memory, memoryOf}
 use Rattle.search.specs.Runs.{Roomy, KeptMemory}
 use Rattle.matrix.specs.Matrix.{square, Matrix}
 use Rattle.johnson.specs.Rounds.{label, Deep}
@@ -117,7 +117,7 @@ unfoldable pub refusalNo : Net ℤ → List ℤ → Scratch → ℕ
 refusalNo g matrix s = cond (enough g matrix s) (cond (insideNet g) 0 2) 1
 
 -- the lists that a search writes
-abbrev pub memory : Scratch → Memory
+abbrev pub memory : Scratch → Memory ℤ
 memory s = memoryOf (s .dist) (s .preds) (s .heap) (s .places) (s .keys)
 
 -- the scratch is as long as the part used

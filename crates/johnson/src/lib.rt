@@ -11,7 +11,7 @@ ghost use Rattle.rows.specs.Rows.{listsOf};
 ghost use Rattle.net.specs.Net.{netOf};
 ghost use Rattle.johnson.specs.Shifting.{shiftedCost, shiftedBack, Listed, ShiftedTo, RowShifted};
 ghost use Rattle.johnson.specs.Promise.{Promise, scratchOf, longEnough, wipedAll};
-ghost use Rattle.search.specs.Search.{memoryOf};
+ghost use Rattle.turns.specs.Memory.{memoryOf};
 ghost use Rattle.search.specs.Runs.{Roomy, KeptMemory};
 ghost use Rattle.johnson.specs.Parts.{rank, Moderate, CanShow, RowShown, CanFill, Filled, RowMade, Ripe, Prepared, refusalNo, Room, Passed, Solved};
 

@@ -1,7 +1,7 @@
 -- The integer search keeps the laws of its kind, and its keys are in range.
 -- Assumes nothing.
 use mathlib.Core.Path.{_≡_, refl, sym, ap, _∙_}
-use mathlib.Core.Bool.{Bool, true, false}
+use mathlib.Core.Bool.{Bool, true, false, cond}
 use mathlib.Core.List.{List}
 use mathlib.Core.Option.{none, some}
 use Prim.Native.Nat.{ℕ, _+_, _-_, _≤_, _<_, _^_}
@@ -15,6 +15,7 @@ use mir.Syntax.{w64}
 use mir.Val.{SFits}
 use Rattle.whole.specs.Zed.{_⊕_, P, N, zed, sum, le-in, lt-yes, lt-no}
 use Rattle.clean.specs.None.{noneI64}
+use Rattle.clean.specs.Better.{betterThan}
 use Rattle.bag.specs.Ints.{Near}
 use Rattle.bag.specs.Order.{pick}
 use Rattle.pending.specs.Setting.{isTarget}
@@ -25,7 +26,7 @@ use Rattle.turns.specs.Kind.{turnOf}
 use Rattle.turns.specs.Row.{betterAt}
 use Rattle.turns.proofs.Lawful.{Lawful}
 use Rattle.search.specs.Search.{dear, Fair, keyOf, targetOf, distIn, guided}
-use Rattle.search.specs.Steps.{far, betterThan, InRange}
+use Rattle.search.specs.Steps.{far, InRange}
 
 -- ---- the laws of its kind
 -- a distance not below zero is read back
@@ -59,19 +60,9 @@ pub better-at : (h : List ℤ) (n old : ℤ) → betterThan n old ≡ betterAt (
 unfolding betterThan distIn
 better-at h n old = go (ltZ noneI64 old)
   where
-    go : (b : Bool) → pick b (ltZ n old) true ≡ better (turnOf (guided h)) n (pick b (some old) none)
+    go : (b : Bool) → cond b (ltZ n old) true ≡ better (turnOf (guided h)) n (pick b (some old) none)
     go true = refl
     go false = refl
-
--- what the test is where there is a distance
-pub better-over : (n old : ℤ) → ltZ noneI64 old ≡ true → ltZ n old ≡ betterThan n old
-unfolding betterThan
-better-over n old e = sym (ap (λ (b : Bool). pick b (ltZ n old) true) e)
-
--- and where there is none
-pub better-none : (n old : ℤ) → ltZ noneI64 old ≡ false → true ≡ betterThan n old
-unfolding betterThan
-better-none n old e = sym (ap (λ (b : Bool). pick b (ltZ n old) true) e)
 
 -- the target is u exactly if the numbers are the same
 pub target-is : (m t u : ℕ) → u < m → u ≡ t → isTarget (targetOf m t) u ≡ true

@@ -30,8 +30,8 @@ use Rattle.pending.specs.OnePlace.{begin, Ends}
 use Rattle.pending.specs.Reach.{BadInReach}
 use Rattle.pending.specs.Answers.{DijkstraAnswer}
 use Rattle.pending.proofs.Dijkstra.{dijkstra-answer}
-use Rattle.turns.specs.Memory.{Fresh}
-use Rattle.search.specs.Search.{keyOf, targetOf, Asked, askedOf, settingOf, guided, Fair, Fit, Memory, memoryOf, Shows, Searched}
+use Rattle.turns.specs.Memory.{Memory, memoryOf, Fresh, Shows}
+use Rattle.search.specs.Search.{keyOf, targetOf, Asked, askedOf, settingOf, guided, Fair, Fit, Searched}
 use Rattle.search.specs.Runs.{firsts, Roomy, KeptMemory, Ran, Cheap, Reached, done, bad}
 
 -- the part that was filled
@@ -44,7 +44,7 @@ kept-first : {X : Type 0} {m : ℕ} (p l : List X) → m ≤ length l → length
 kept-first {m = m} p l h e = record { long = omega (arith, length-append p (drop m l), length-drop m l); rest = drop-at p (drop m l) m e }
 
 -- each part is m long
-pub record Parts (m : ℕ) (M : Memory) : Type 0 where
+pub record Parts (m : ℕ) (M : Memory ℤ) : Type 0 where
   pub dist : m ≡ length (take m (M .dist))
   pub preds : m ≡ length (take m (M .preds))
   pub heap : m ≡ length (take m (M .heap))
@@ -52,7 +52,7 @@ pub record Parts (m : ℕ) (M : Memory) : Type 0 where
   pub keys : m ≡ length (take m (M .keys))
 
 -- so it is where there is room
-pub parts : {m : ℕ} {M : Memory} → Roomy m M → Parts m M
+pub parts : {m : ℕ} {M : Memory ℤ} → Roomy m M → Parts m M
 parts {m} {M} w = record {
   dist = sym (length-take-le m (M .dist) (w .dist));
   preds = sym (length-take-le m (M .preds) (w .preds));
@@ -62,7 +62,7 @@ parts {m} {M} w = record {
 }
 
 -- ---- the first entries, cleared and searched
-module _ {m : ℕ} {M : Memory} (w : Roomy m M) {d : List ℤ} {p h i : List ℕ} (d-is : d ≡ filled m noneI64 (M .dist)) (p-is : p ≡ filled m noneU32 (M .preds)) (h-is : h ≡ filled m 0 (M .heap)) (i-is : i ≡ filled m 0 (M .places)) where
+module _ {m : ℕ} {M : Memory ℤ} (w : Roomy m M) {d : List ℤ} {p h i : List ℕ} (d-is : d ≡ filled m noneI64 (M .dist)) (p-is : p ≡ filled m noneU32 (M .preds)) (h-is : h ≡ filled m 0 (M .heap)) (i-is : i ≡ filled m 0 (M .places)) where
   -- there is room still
   pub roomy : Roomy m (memoryOf d p h i (M .keys))
   roomy = record {
@@ -86,7 +86,7 @@ module _ {m : ℕ} {M : Memory} (w : Roomy m M) {d : List ℤ} {p h i : List ℕ
 
   -- a part that was searched stands before the rest
   module _ (d′ : List ℤ) (p′ h′ i′ : List ℕ) (k′ : List ℤ) (ld : length d′ ≡ length (take m d)) (lp : length p′ ≡ length (take m p)) (lh : length h′ ≡ length (take m h)) (li : length i′ ≡ length (take m i)) (lk : length k′ ≡ length (take m (M .keys))) where
-    abbrev after : Memory
+    abbrev after : Memory ℤ
     after = memoryOf (d′ ++ drop m d) (p′ ++ drop m p) (h′ ++ drop m h) (i′ ++ drop m i) (k′ ++ drop m (M .keys))
 
     nd : length d′ ≡ m
@@ -119,10 +119,10 @@ module _ {m : ℕ} {M : Memory} (w : Roomy m M) {d : List ℤ} {p h i : List ℕ
 
     -- the search is over
     pub ran : {s t number takes : ℕ} {h : List ℤ} {nb : Lists ℤ} → Searched (askedOf m s t h) nb (memoryOf d′ p′ h′ i′ k′) number takes → Ran (askedOf m s t h) nb M after number takes
-    ran {s} {t} {number} {takes} {h} {nb} z = record { searched = subst (λ (x : Memory). Searched (askedOf m s t h) nb x number takes) first-is z; kept = kept }
+    ran {s} {t} {number} {takes} {h} {nb} z = record { searched = subst (λ (x : Memory ℤ). Searched (askedOf m s t h) nb x number takes) first-is z; kept = kept }
 
 -- a predecessor that the end names, read
-pub shown-pred : {e : End ℤ} {M : Memory} → Shows e M → (v u : ℕ) → v < length (M .preds) → e .pred v ≡ some u → getD (M .preds) v 0 ≡ u
+pub shown-pred : {e : End ℤ} {M : Memory ℤ} → Shows noneI64 e M → (v u : ℕ) → v < length (M .preds) → e .pred v ≡ some u → getD (M .preds) v 0 ≡ u
 shown-pred {M} s v u i q = no-default (M .preds) v 0 noneU32 i ∙ s .preds v ∙ ap (shown noneU32) q
 
 -- ---- no heuristic, no target
@@ -160,7 +160,7 @@ module _ {m s : ℕ} {nb : Lists ℤ} where
   pub fits : Cheap m nb → s < m → Fit (plain m s) nb
   fits w h = record { rows = w .rows; source = h; first = zeros-fair s; fair = λ u v c a. zeros-fair v; cheap = w .cheap }
 
-  module _ {M M′ : Memory} {number takes : ℕ} (w : Ran (plain m s) nb M M′ number takes) (room : m ≤ length (M .dist)) where
+  module _ {M M′ : Memory ℤ} {number takes : ℕ} (w : Ran (plain m s) nb M M′ number takes) (room : m ≤ length (M .dist)) where
     -- what the end says
     answer : DijkstraAnswer (RowArc m nb) s (w .searched .end)
     answer = dijkstra-answer (RowArc m nb) s (subst (λ (S : Setting ℤ ℤ). Ends S (RowArc m nb) (begin S) 0 (w .searched .end)) (setting-is m s) (w .searched .ends))

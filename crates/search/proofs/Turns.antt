@@ -23,11 +23,11 @@ use Rattle.pending.proofs.Measure.{load, load-falls, over-most}
 use Rattle.bag.specs.Content.{contentOf, IsLeast}
 use Rattle.bag.specs.Bag.{Bag}
 use Rattle.bag.specs.Ints.{ints}
-use Rattle.turns.specs.Memory.{cellsOf, Fresh}
+use Rattle.turns.specs.Memory.{Memory, memoryOf, cellsOf, Fresh}
 use Rattle.turns.specs.Row.{Opens, RowDone}
 use Rattle.turns.specs.Searched.{Started}
 use Rattle.turns.proofs.Turns.{upto, upto-long, Moment, Popped, started, starts, popped, opens, finds, stops, turn, next}
-use Rattle.search.specs.Search.{keyOf, targetOf, guided, dear, Asked, settingOf, Fit, Memory, memoryOf, Searched}
+use Rattle.search.specs.Search.{keyOf, targetOf, guided, dear, Asked, settingOf, Fit, Searched}
 use Rattle.search.specs.Steps.{far, RowInRange}
 use Rattle.search.proofs.Ints.{lawful, target-is, target-isnt}
 
@@ -36,15 +36,15 @@ module _ (q : Asked) (nb : Lists ℤ) where
   abbrev target : Option ℕ
   target = targetOf (q .bound) (q .target)
 
-  abbrev said : Memory → ℕ → Cell ℤ
+  abbrev said : Memory ℤ → ℕ → Cell ℤ
   said M = cellsOf (guided (q .guess)) M
 
   -- what falls
-  abbrev pub toDo : Memory → ℕ
+  abbrev pub toDo : Memory ℤ → ℕ
   toDo M = over (load far) (said M) (upto (q .bound))
 
   -- at the head of the loop, after so many takes: n pairs are pending
-  pub record Head (M : Memory) (n takes : ℕ) : Type 0 where
+  pub record Head (M : Memory ℤ) (n takes : ℕ) : Type 0 where
     pub moment : Moment (guided (q .guess)) (q .bound) target (q .source) nb M n takes
     pub inv : Inv (keyOf (q .guess)) target (q .source) (RowArc (q .bound) nb) (said M)
     pub bounded : Bounded dear (said M)
@@ -60,7 +60,7 @@ module _ (q : Asked) (nb : Lists ℤ) where
         omega (arith, upto-long (q .bound), fit .rows .bounded)
 
     -- the start
-    pub head-first : {M M′ : Memory} {n : ℕ} → Fresh (guided (q .guess)) (q .bound) M → Started (guided (q .guess)) (q .source) M M′ n → length (M′ .places) ≡ q .bound → Head M′ n 0
+    pub head-first : {M M′ : Memory ℤ} {n : ℕ} → Fresh (guided (q .guess)) (q .bound) M → Started (guided (q .guess)) (q .source) M M′ n → length (M′ .places) ≡ q .bound → Head M′ n 0
     head-first {M} {M′} {n} f s long = record {
       moment = first;
       inv = subst (Inv (keyOf (q .guess)) target (q .source) (RowArc (q .bound) nb)) (sym is) (begin-inv (keyOf (q .guess)) target (q .source) (RowArc (q .bound) nb));
@@ -78,10 +78,10 @@ module _ (q : Asked) (nb : Lists ℤ) where
         bounded = subst (Bounded dear) (sym is) (begin-bounded (keyOf (q .guess)) target (q .source) (RowArc (q .bound) nb) dear (fit .cheap))
 
     -- ---- a take
-    module _ {M : Memory} {n takes : ℕ} (h : Head M n takes) {u : ℕ} {k : ℤ} {heap places : List ℕ} (l : IsLeast ltZ (contentOf (M .places) (M .keys)) k u) (bag-is : Bag ints heap places (M .keys) (n - 1))
+    module _ {M : Memory ℤ} {n takes : ℕ} (h : Head M n takes) {u : ℕ} {k : ℤ} {heap places : List ℕ} (l : IsLeast ltZ (contentOf (M .places) (M .keys)) k u) (bag-is : Bag ints heap places (M .keys) (n - 1))
         (content-is : contentOf places (M .keys) ≡ set (contentOf (M .places) (M .keys)) u none) (long : length places ≡ length (M .places)) where
       -- the memory then
-      abbrev M₁ : Memory
+      abbrev M₁ : Memory ℤ
       M₁ = memoryOf (M .dist) (M .preds) heap places (M .keys)
 
       took : Popped (guided (q .guess)) (q .bound) target (q .source) nb M M₁ n u
@@ -99,7 +99,7 @@ module _ (q : Asked) (nb : Lists ℤ) where
       found e z y = finds (guided (q .guess)) (q .bound) target (q .source) nb (lawful (q .guess)) (fit .rows) (fit .source) (h .moment) took (target-is (q .bound) (q .target) u (took .below) e) z (y ∙ add-one takes)
 
       -- a take and a row
-      module _ {M′ : Memory} {n′ : ℕ} {bad : Bool} (other : u ≡ q .target → ⊥) (r : RowDone (guided (q .guess)) (q .bound) nb u M₁ M′ bad n′) where
+      module _ {M′ : Memory ℤ} {n′ : ℕ} {bad : Bool} (other : u ≡ q .target → ⊥) (r : RowDone (guided (q .guess)) (q .bound) nb u M₁ M′ bad n′) where
         -- an arc below zero
         pub refused : {number count : ℕ} → bad ≡ true → number ≡ 6 → count ≡ takes + 1 → Searched q nb M′ number count
         refused e z y = stops (guided (q .guess)) (q .bound) target (q .source) nb (lawful (q .guess)) (fit .rows) (fit .source) (h .moment) took (target-isnt (q .bound) (q .target) u other) r e z (y ∙ add-one takes)

@@ -12,14 +12,15 @@ use Rattle.rows.specs.Rows.{Lists}
 use Rattle.rows.specs.Kept.{Kept}
 use Rattle.rows.specs.RowArc.{RowArc, Sound}
 use Rattle.pending.specs.Reach.{BadInReach}
-use Rattle.search.specs.Search.{dear, Asked, Memory, memoryOf, Searched}
+use Rattle.turns.specs.Memory.{Memory, memoryOf}
+use Rattle.search.specs.Search.{dear, Asked, Searched}
 
 -- the first m entries of each list
-abbrev pub firsts : ℕ → Memory → Memory
+abbrev pub firsts : ℕ → Memory ℤ → Memory ℤ
 firsts m M = memoryOf (take m (M .dist)) (take m (M .preds)) (take m (M .heap)) (take m (M .places)) (take m (M .keys))
 
 -- each list has m entries
-pub record Roomy (m : ℕ) (M : Memory) : Type 0 where
+pub record Roomy (m : ℕ) (M : Memory ℤ) : Type 0 where
   pub dist : m ≤ length (M .dist)
   pub preds : m ≤ length (M .preds)
   pub heap : m ≤ length (M .heap)
@@ -27,7 +28,7 @@ pub record Roomy (m : ℕ) (M : Memory) : Type 0 where
   pub keys : m ≤ length (M .keys)
 
 -- the lengths and the entries from m on are as before
-pub record KeptMemory (m : ℕ) (M M′ : Memory) : Type 0 where
+pub record KeptMemory (m : ℕ) (M M′ : Memory ℤ) : Type 0 where
   pub dist : Kept m (M .dist) (M′ .dist)
   pub preds : Kept m (M .preds) (M′ .preds)
   pub heap : Kept m (M .heap) (M′ .heap)
@@ -35,7 +36,7 @@ pub record KeptMemory (m : ℕ) (M M′ : Memory) : Type 0 where
   pub keys : Kept m (M .keys) (M′ .keys)
 
 -- the search is over on the first entries
-pub record Ran (q : Asked) (nb : Lists ℤ) (M M′ : Memory) (number takes : ℕ) : Type 0 where
+pub record Ran (q : Asked) (nb : Lists ℤ) (M M′ : Memory ℤ) (number takes : ℕ) : Type 0 where
   pub searched : Searched q nb (firsts (q .bound) M′) number takes
   pub kept : KeptMemory (q .bound) M M′
 

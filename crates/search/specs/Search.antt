@@ -1,6 +1,5 @@
 -- What the integer search is asked, what it goes by, and what it answers: the end of the pending bag over the neighbour list's arcs.
 -- Assumes nothing.
-use mathlib.Core.Path.{_≡_}
 use mathlib.Core.Bool.{false}
 use mathlib.Core.List.{List}
 use mathlib.Core.Option.{Option, none, some}
@@ -15,9 +14,9 @@ use Rattle.rows.specs.Rows.{Lists}
 use Rattle.rows.specs.RowArc.{RowArc, Sound}
 use Rattle.bag.specs.Ints.{ints}
 use Rattle.bag.specs.Order.{pick}
-use Rattle.pending.specs.Setting.{Setting, End}
+use Rattle.pending.specs.Setting.{Setting}
 use Rattle.turns.specs.Kind.{Kind, settingOf as settingFor}
-use Rattle.turns.specs.Memory.{Memory as MemoryOf, memoryOf as lists, Shows as ShowsBy}
+use Rattle.turns.specs.Memory.{Memory}
 use Rattle.turns.specs.Searched.{Searched as SearchedBy}
 
 -- ---- the question
@@ -68,17 +67,7 @@ pub record Fit (q : Asked) (nb : Lists ℤ) : Type 0 where
   pub fair : (u v : ℕ) (c : ℤ) → RowArc (q .bound) nb u v c → Fair (q .guess) v
   pub cheap : (u v : ℕ) (c : ℤ) → RowArc (q .bound) nb u v c → P c ≤ dear
 
--- ---- the lists that the search writes, and the answer
-abbrev pub Memory : Type 0
-Memory = MemoryOf ℤ
-
-abbrev pub memoryOf : List ℤ → List ℕ → List ℕ → List ℕ → List ℤ → Memory
-memoryOf d p h i k = lists d p h i k
-
--- the lists show an end
-abbrev pub Shows : End ℤ → Memory → Type 0
-Shows e M = ShowsBy noneI64 e M
-
+-- ---- the answer
 -- the search that is over: its end by the pending bag, over the neighbour list's arcs
-abbrev pub Searched : Asked → Lists ℤ → Memory → ℕ → ℕ → Type 0
+abbrev pub Searched : Asked → Lists ℤ → Memory ℤ → ℕ → ℕ → Type 0
 Searched q nb M number takes = SearchedBy (guided (q .guess)) (q .bound) (targetOf (q .bound) (q .target)) (q .source) nb M number takes

@@ -1,24 +1,17 @@
 -- What keeps the sums of the search in range, beside what every search over a neighbour list promises.
 -- Assumes nothing.
-use mathlib.Core.Bool.{Bool, true}
 use mathlib.Core.List.{List}
 use Prim.Native.Nat.{ℕ, _≤_, _^_}
 use lib.IntN.{ℤ, pos}
-use lib.Signed.{ltZ, _≤ℤ_}
+use lib.Signed.{_≤ℤ_}
 use Rattle.whole.specs.Zed.{P}
-use Rattle.clean.specs.None.{noneI64}
 use Rattle.rows.specs.Rows.{Lists}
 use Rattle.rows.specs.RowArc.{RowArc}
-use Rattle.bag.specs.Order.{pick}
 use Rattle.search.specs.Search.{dear, Fair}
 
 -- no distance is above this: fewer than 1,024 arcs, each at most `dear`
 abbrev pub far : ℕ
 far = 2 ^ 51
-
--- is n better than what stands there?
-unfoldable pub betterThan : ℤ → ℤ → Bool
-betterThan n old = pick (ltZ noneI64 old) (ltZ n old) true
 
 -- the sum of a distance d and a cost c, and the key of v there, are in range
 pub record InRange (h : List ℤ) (d : ℤ) (v : ℕ) (c : ℤ) : Type 0 where

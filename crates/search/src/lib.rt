@@ -6,14 +6,15 @@ ghost use lib.IntN.{pos};
 ghost use lib.Signed.{ltZ, _≤ℤ_};
 ghost use lib.ListN.{length, getD, set};
 ghost use Rattle.clean.specs.None.{noneI64, noneU32};
+ghost use Rattle.clean.specs.Better.{betterThan};
 ghost use Rattle.clean.specs.Fill.{filled};
 ghost use Rattle.rows.specs.Rows.{listsOf};
 ghost use Rattle.rows.specs.RowArc.{RowArc};
-ghost use Rattle.turns.specs.Memory.{Fresh};
+ghost use Rattle.turns.specs.Memory.{memoryOf, Fresh};
 ghost use Rattle.turns.specs.Row.{Safe, Looked, Opens, RowDone};
 ghost use Rattle.turns.specs.Searched.{Started};
-ghost use Rattle.search.specs.Search.{keyOf, askedOf, guided, dear, Fair, Fit, memoryOf, Searched};
-ghost use Rattle.search.specs.Steps.{far, betterThan, InRange, RowInRange};
+ghost use Rattle.search.specs.Search.{keyOf, askedOf, guided, dear, Fair, Fit, Searched};
+ghost use Rattle.search.specs.Steps.{far, InRange, RowInRange};
 ghost use Rattle.search.specs.Runs.{Roomy, KeptMemory, Ran, Cheap, Reached};
 
 // What a search ends in: 0, or 6 where a cost below zero was met; and how many pairs were taken and not dropped.

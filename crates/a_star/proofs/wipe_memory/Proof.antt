@@ -1,7 +1,7 @@
 -- `a_star::wipe_memory` meets its contract.
 -- Assumes nothing.
 use borrow.Author.Needs.{needs}
-use Rattle.search.specs.Search.{memoryOf}
+use Rattle.turns.specs.Memory.{memoryOf}
 use Rattle.a_star.proofs.wipe_memory.Statement.{statement}
 use Rattle.a_star.proofs.wipe_memory.Tie as tie
 

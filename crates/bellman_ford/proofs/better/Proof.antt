@@ -8,7 +8,7 @@ use lib.Signed.{ltZ}
 use mir.Syntax.{w64}
 use mir.ValLaws.{toZ-ofZ}
 use Rattle.clean.specs.None.{noneI64}
-use Rattle.bellman_ford.proofs.Labels.{better-over, better-none}
+use Rattle.clean.proofs.Better.{better-over, better-none}
 
 lower-requires : tie.Need-lower-requires
 lower-requires c κs = search needs

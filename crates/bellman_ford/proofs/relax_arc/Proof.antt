@@ -15,9 +15,10 @@ use lib.ListN.{getD, set}
 use lib.IntN.{pos}
 use mir.Syntax.{w64}
 use mir.Val.{toZ, ofZ}
+use Rattle.clean.specs.Better.{betterThan}
 use Rattle.whole.specs.Zed.{_⊕_}
 use Rattle.whole.proofs.Signed.{near, sum-is, read-at}
-use Rattle.bellman_ford.specs.Search.{kept, long, stored, betterThan}
+use Rattle.bellman_ford.specs.Search.{kept, long, stored}
 
 -- what the sum and the test gave, of the numbers themselves
 module _ (c : lts.After-better (plus-reads.Asked, plus-reads.Learnt, better-reads.Asked, better-reads.Learnt, store-reads.Asked, store-reads.Learnt, push-reads.Asked, push-reads.Learnt) reads.Pre reads.Post) where

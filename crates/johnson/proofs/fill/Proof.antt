@@ -7,7 +7,7 @@ use mathlib.Core.Path.{sym, _∙_}
 use Prim.Native.Nat.{_-_}
 use native.Mathlib.Omega.{arith}
 use Rattle.rows.specs.Rows.{listsOf}
-use Rattle.search.specs.Search.{memoryOf}
+use Rattle.turns.specs.Memory.{memoryOf}
 use Rattle.johnson.proofs.Shows.{memory-more, memory-roomy, Filling, fill-first, can-next, fill-last}
 
 abbrev Inv-loop : tie.InvT-loop

@@ -12,7 +12,8 @@ use mir.ValLaws.{toZ-ofZ}
 use Rattle.rows.specs.Rows.{listsOf}
 use Rattle.turns.specs.Row.{Row}
 use Rattle.turns.proofs.Rows.{cost-here, row-first, row-stops, row-ends}
-use Rattle.search.specs.Search.{memoryOf, guided}
+use Rattle.turns.specs.Memory.{memoryOf}
+use Rattle.search.specs.Search.{guided}
 use Rattle.search.proofs.Ints.{lawful}
 use Rattle.search.proofs.Rows.{entry-is, arc-safe, arc-next}
 use Rattle.search.proofs.look_row.Statement.{statement}

@@ -4,10 +4,10 @@ use mathlib.Core.Path.{refl, sym, subst, _∙_}
 use Prim.Native.Nat.{ℕ, _<_}
 use native.Mathlib.Omega.{arith}
 use Rattle.rows.specs.Rows.{listsOf}
-use Rattle.turns.specs.Memory.{Fresh}
+use Rattle.turns.specs.Memory.{memoryOf, Fresh}
 use Rattle.turns.proofs.Cells.{fresh-good, same-long}
 use Rattle.turns.proofs.Turns.{rests}
-use Rattle.search.specs.Search.{askedOf, memoryOf, guided}
+use Rattle.search.specs.Search.{askedOf, guided}
 use Rattle.search.proofs.Ints.{lawful}
 use Rattle.search.proofs.Turns.{Head, toDo, head-first, asks, found, refused, falls, head-next}
 use Rattle.search.proofs.search.Statement.{statement}
