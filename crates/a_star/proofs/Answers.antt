@@ -44,7 +44,9 @@ use Rattle.rows.proofs.Kept.{needs-kept}
 use Rattle.rows.proofs.Maps.{ready-ints, net-room, arcs-are, net-sound, net-kept, row-small}
 use Rattle.turns.specs.Memory.{Memory, memoryOf, Shows}
 use Rattle.search.specs.Search.{keyOf, targetOf, askedOf, settingOf, Fair, Fit}
-use Rattle.search.specs.Runs.{firsts, Roomy, KeptMemory, Ran}
+use Rattle.turns.specs.Firsts.{firsts, Roomy, KeptMemory}
+use Rattle.turns.proofs.Firsts.{memory-roomy}
+use Rattle.search.specs.Runs.{Ran}
 use Rattle.search.proofs.Runs.{shown-pred}
 use Rattle.a_star.specs.Promise.{Question, questionOf, Answer, Scratch, Buffers, fairGuess, Fine, written, wipedMemory, wipedAll, searchOf, Says, bad, unreached, reached, Outcome}
 use Rattle.a_star.specs.Trail.{GoesBack}
@@ -258,16 +260,6 @@ wiped-memory {m} {M} {K} k =
     memoryOf (filled-same m (pos 0) (K .dist) (M .dist) (k .dist .rest) i) (filled-same m 0 (K .preds) (M .preds) (k .preds .rest) i) (filled-same m 0 (K .heap) (M .heap) (k .heap .rest) i) (filled-same m 0 (K .places) (M .places) (k .places .rest) i)
     (filled-same m (pos 0) (K .keys) (M .keys) (k .keys .rest) i)
 
--- lists of the same lengths have the same room
-roomy-kept : {m : ℕ} {M K : Memory ℤ} → Roomy m M → KeptMemory m M K → Roomy m K
-roomy-kept w k = record {
-  dist = rw (k .dist .long) (w .dist);
-  preds = rw (k .preds .long) (w .preds);
-  heap = rw (k .heap .long) (w .heap);
-  places = rw (k .places .long) (w .places);
-  keys = rw (k .keys .long) (w .keys);
-}
-
 -- ---- the whole call
 module _ {m n : ℕ} {d : Bool} {xs ys : List ℕ} {cs : List ℤ} {q : Question} {b : Buffers} (w : Ripe m n d xs ys cs q b) where
   -- the map, by some marks
@@ -293,15 +285,15 @@ module _ {m n : ℕ} {d : Bool} {xs ys : List ℕ} {cs : List ℤ} {q : Question
     told = record {
       bounded = few-indices;
       target = has-below h (q .target) (w .fine .target);
-      dist = roomy-kept (fine-long (w .fine) .memory) (z .memory) .dist;
-      preds = roomy-kept (fine-long (w .fine) .memory) (z .memory) .preds;
+      dist = memory-roomy (fine-long (w .fine) .memory) (z .memory) .dist;
+      preds = memory-roomy (fine-long (w .fine) .memory) (z .memory) .preds;
       path = fine-long (w .fine) .path;
-      back = λ e y. goes-back h q (w .fine) (z .ends) (t .memory) (roomy-kept (fine-long (w .fine) .memory) (z .memory) .preds) (z .shows e) (sym (z .is) ∙ e) y;
+      back = λ e y. goes-back h q (w .fine) (z .ends) (t .memory) (memory-roomy (fine-long (w .fine) .memory) (z .memory) .preds) (z .shows e) (sym (z .is) ∙ e) y;
     }
 
     -- the scratch can be wiped
     pub can-wipe : {a : ℕ} → a ≡ arcRoom d n → ScratchRoom m a t
-    can-wipe {a} e = subst (λ (k : ℕ). ScratchRoom m k t) (sym e) (record { rows = needs-kept (fine-long (w .fine) .rows) (z .rows); memory = roomy-kept (fine-long (w .fine) .memory) (z .memory) })
+    can-wipe {a} e = subst (λ (k : ℕ). ScratchRoom m k t) (sym e) (record { rows = needs-kept (fine-long (w .fine) .rows) (z .rows); memory = memory-roomy (fine-long (w .fine) .memory) (z .memory) })
 
     -- the answer read off, and the scratch wiped
     pub outcome : {l : List ℕ} {r : Answer} {a : ℕ} {u : Scratch} → Read number m (q .source) (q .target) (t .memory .dist) (t .memory .preds) (b .path) l r → a ≡ arcRoom d n → u ≡ wipedAll m a t → Outcome (Arc d (links n xs ys cs)) m (arcRoom d n) q b (record { path = l; scratch = u }) r
@@ -314,7 +306,7 @@ module _ {m n : ℕ} {d : Bool} {xs ys : List ℕ} {cs : List ℤ} {q : Question
         made p s k = record { end = z .end; ends = z .ends; path = p; says = s; leaves = λ i. record { path = k i; scratch = clean i } }
 
         longP : m ≤ length (t .memory .preds)
-        longP = roomy-kept (fine-long (w .fine) .memory) (z .memory) .preds
+        longP = memory-roomy (fine-long (w .fine) .memory) (z .memory) .preds
 
         go : Read number m (q .source) (q .target) (t .memory .dist) (t .memory .preds) (b .path) l r → Outcome (Arc d (links n xs ys cs)) m (arcRoom d n) q b (record { path = l; scratch = u }) r
         go (refused p i k) = made [] (says-bad h q (w .fine) (z .ends) (z .is) p i) (k ∙ none-written (filled m noneU32 (b .path)))

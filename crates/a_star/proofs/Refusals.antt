@@ -20,7 +20,7 @@ use Rattle.rows.specs.Kept.{Needs}
 use Rattle.rows.proofs.Kept.{has-needs}
 use Rattle.turns.specs.Memory.{Memory}
 use Rattle.search.specs.Search.{Fair}
-use Rattle.search.specs.Runs.{Roomy}
+use Rattle.turns.specs.Firsts.{Roomy}
 use Rattle.a_star.specs.Promise.{Question, without, Buffers, hasMemory, longEnough, enough, isFair, fairAt, fairBelow, fairGuess, Fine, Promise, short, outside, noSource, noTarget, farGuess}
 use Rattle.a_star.specs.Parts.{questionNo, refusalNo}
 

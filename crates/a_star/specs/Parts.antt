@@ -14,7 +14,7 @@ use Rattle.pending.specs.OnePlace.{begin, Ends}
 use Rattle.net.specs.Net.{Net, netOf, insideNet, has}
 use Rattle.rows.specs.Kept.{KeptLists, Needs}
 use Rattle.turns.specs.Memory.{Shows}
-use Rattle.search.specs.Runs.{firsts, Roomy, KeptMemory}
+use Rattle.turns.specs.Firsts.{firsts, Roomy, KeptMemory}
 use Rattle.a_star.specs.Promise.{Question, Answer, answerOf, without, Scratch, Buffers, enough, fairGuess, Fine, written, searchOf}
 use Rattle.a_star.specs.Trail.{trail, GoesBack}
 

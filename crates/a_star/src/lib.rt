@@ -9,7 +9,7 @@ ghost use Rattle.table.specs.Links.{present, links, Arc};
 ghost use Rattle.clean.specs.None.{noneI64};
 ghost use Rattle.net.specs.Net.{netOf, wholeNet, arcRoom};
 ghost use Rattle.turns.specs.Memory.{memoryOf};
-ghost use Rattle.search.specs.Runs.{Roomy};
+ghost use Rattle.turns.specs.Firsts.{Roomy};
 ghost use Rattle.a_star.specs.Promise.{Promise, Outcome, questionOf, answerOf, buffersOf, scratchOf, hasMemory, longEnough, isFair, fairAt, fairBelow, written, wipedMemory, wipedAll};
 ghost use Rattle.a_star.specs.Trail.{trail, GoesBack};
 ghost use Rattle.a_star.specs.Parts.{questionNo, refusalNo, Room, CanSeek, Ripe, Sought, given, Told, Read};

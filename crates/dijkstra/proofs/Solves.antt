@@ -13,7 +13,8 @@ use Rattle.rows.specs.Rows.{Lists, Ready, Room, Rows, Small, arcsInts}
 use Rattle.rows.specs.RowArc.{RowArc}
 use Rattle.rows.proofs.Maps.{ready-ints, arcs-are, net-sound, net-kept, net-room, row-small}
 use Rattle.turns.specs.Memory.{Memory}
-use Rattle.search.specs.Runs.{Cheap, KeptMemory, Reached}
+use Rattle.turns.specs.Firsts.{KeptMemory}
+use Rattle.search.specs.Runs.{Cheap, Reached}
 use Rattle.search.proofs.Runs.{reached-over}
 use Rattle.dijkstra.specs.Promise.{Buffers}
 use Rattle.dijkstra.specs.Parts.{Ripe, Solved, memory}

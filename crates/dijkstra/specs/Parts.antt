@@ -9,7 +9,8 @@ use lib.ListN.{length}
 use Rattle.net.specs.Net.{Net, netOf, wholeNet, insideNet, has, arcRoom}
 use Rattle.rows.specs.Kept.{KeptLists, Needs}
 use Rattle.turns.specs.Memory.{Memory, memoryOf}
-use Rattle.search.specs.Runs.{Roomy, KeptMemory, Reached}
+use Rattle.turns.specs.Firsts.{Roomy, KeptMemory}
+use Rattle.search.specs.Runs.{Reached}
 use Rattle.dijkstra.specs.Promise.{Scratch, Buffers, enough}
 
 -- refusal 1, then 2, then 3, else 0

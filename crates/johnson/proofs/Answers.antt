@@ -16,7 +16,7 @@ use Rattle.rows.proofs.Kept.{needs-kept}
 use Rattle.matrix.specs.Matrix.{square, negative, done}
 use Rattle.johnson.specs.Promise.{Scratch, scratchOf, wipedAll, Promise}
 use Rattle.johnson.specs.Parts.{refusalNo, Room, Passed, Solved}
-use Rattle.johnson.proofs.Shows.{memory-roomy}
+use Rattle.turns.proofs.Firsts.{memory-roomy}
 use Rattle.johnson.proofs.Refusals.{not-refused, passed}
 
 -- the scratch needs at most 8(m + 1) + 4a entries

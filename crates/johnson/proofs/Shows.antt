@@ -25,9 +25,10 @@ use Rattle.net.proofs.Nodes.{count-most, ranked, rising-in, present-yes, presen
 use Rattle.net.proofs.Lists.{count-yes, count-no}
 use Rattle.rows.specs.Rows.{Lists}
 use Rattle.rows.specs.RowArc.{RowArc}
-use Rattle.rows.proofs.Kept.{kept-none, kept-more}
 use Rattle.turns.specs.Memory.{Memory}
-use Rattle.search.specs.Runs.{Roomy, KeptMemory, Cheap, Reached, done, bad}
+use Rattle.turns.specs.Firsts.{KeptMemory}
+use Rattle.turns.proofs.Firsts.{memory-none}
+use Rattle.search.specs.Runs.{Cheap, Reached, done, bad}
 use Rattle.matrix.proofs.Matrix.{square-small}
 use Rattle.johnson.specs.Rounds.{label, Deep}
 use Rattle.johnson.specs.Shifting.{shiftedBack}
@@ -135,23 +136,6 @@ found w (bad e b) v h =
     let p : pos 0 ≤ℤ b .c = w .up (b .u) (b .v) (b .c) (b .arc-is) in
     let q : b .c <ℤ pos 0 = b .below in
     absurd (omega (arith, zed))
-
--- ---- the lists that searches write keep their rests
-module _ {m : ℕ} where
-  pub memory-none : {M : Memory ℤ} → KeptMemory m M M
-  memory-none = record { dist = kept-none; preds = kept-none; heap = kept-none; places = kept-none; keys = kept-none }
-
-  pub memory-more : {M M′ M″ : Memory ℤ} → KeptMemory m M M′ → KeptMemory m M′ M″ → KeptMemory m M M″
-  memory-more p q = record { dist = kept-more (p .dist) (q .dist); preds = kept-more (p .preds) (q .preds); heap = kept-more (p .heap) (q .heap); places = kept-more (p .places) (q .places); keys = kept-more (p .keys) (q .keys) }
-
-  pub memory-roomy : {M M′ : Memory ℤ} → Roomy m M → KeptMemory m M M′ → Roomy m M′
-  memory-roomy w k = record {
-    dist = omega (arith, w .dist, k .dist .long);
-    preds = omega (arith, w .preds, k .preds .long);
-    heap = omega (arith, w .heap, k .heap .long);
-    places = omega (arith, w .places, k .places .long);
-    keys = omega (arith, w .keys, k .keys .long);
-  }
 
 -- ---- all rows
 -- a row lies in the square

@@ -18,13 +18,13 @@ use Rattle.rows.specs.Rows.{Lists, listsOf}
 use Rattle.rows.specs.Kept.{Kept}
 use Rattle.rows.proofs.Kept.{kept-none}
 use Rattle.turns.specs.Memory.{memoryOf}
-use Rattle.search.specs.Runs.{KeptMemory}
+use Rattle.turns.specs.Firsts.{KeptMemory}
 use Rattle.matrix.specs.Matrix.{square, Matrix}
 use Rattle.johnson.specs.Promise.{Scratch, scratchOf}
 use Rattle.johnson.specs.Parts.{rank, CanFill, Shown, Filled, Ripe, Laid, memory, KeptAll, Prepared, Passed, Solved}
 use Rattle.johnson.proofs.Sweeps.{none-below}
 use Rattle.johnson.proofs.Shifts.{entry-back}
-use Rattle.johnson.proofs.Shows.{memory-none}
+use Rattle.turns.proofs.Firsts.{memory-none}
 use Rattle.johnson.proofs.Lays.{same-rest, pot-deep, laid-even}
 
 -- ---- the matrix

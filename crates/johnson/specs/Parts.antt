@@ -17,7 +17,7 @@ use Rattle.rows.specs.Rows.{Lists}
 use Rattle.rows.specs.RowArc.{RowArc, Sound}
 use Rattle.rows.specs.Kept.{Kept, KeptLists, Needs}
 use Rattle.turns.specs.Memory.{Memory, memoryOf}
-use Rattle.search.specs.Runs.{Roomy, KeptMemory}
+use Rattle.turns.specs.Firsts.{Roomy, KeptMemory}
 use Rattle.matrix.specs.Matrix.{square, Matrix}
 use Rattle.johnson.specs.Rounds.{label, Deep}
 use Rattle.johnson.specs.Potentials.{Potentials}

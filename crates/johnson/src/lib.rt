@@ -12,7 +12,7 @@ ghost use Rattle.net.specs.Net.{netOf};
 ghost use Rattle.johnson.specs.Shifting.{shiftedCost, shiftedBack, Listed, ShiftedTo, RowShifted};
 ghost use Rattle.johnson.specs.Promise.{Promise, scratchOf, longEnough, wipedAll};
 ghost use Rattle.turns.specs.Memory.{memoryOf};
-ghost use Rattle.search.specs.Runs.{Roomy, KeptMemory};
+ghost use Rattle.turns.specs.Firsts.{Roomy, KeptMemory};
 ghost use Rattle.johnson.specs.Parts.{rank, Moderate, CanShow, RowShown, CanFill, Filled, RowMade, Ripe, Prepared, refusalNo, Room, Passed, Solved};
 
 // The potential of u and the cost at k, added.

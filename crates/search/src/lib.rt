@@ -15,7 +15,8 @@ ghost use Rattle.turns.specs.Row.{Safe, Looked, Opens, RowDone};
 ghost use Rattle.turns.specs.Searched.{Started};
 ghost use Rattle.search.specs.Search.{keyOf, askedOf, guided, dear, Fair, Fit, Searched};
 ghost use Rattle.search.specs.Steps.{far, InRange, RowInRange};
-ghost use Rattle.search.specs.Runs.{Roomy, KeptMemory, Ran, Cheap, Reached};
+ghost use Rattle.turns.specs.Firsts.{Roomy, KeptMemory};
+ghost use Rattle.search.specs.Runs.{Ran, Cheap, Reached};
 
 // What a search ends in: 0, or 6 where a cost below zero was met; and how many pairs were taken and not dropped.
 pub struct Found {

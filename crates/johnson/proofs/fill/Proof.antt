@@ -8,7 +8,8 @@ use Prim.Native.Nat.{_-_}
 use native.Mathlib.Omega.{arith}
 use Rattle.rows.specs.Rows.{listsOf}
 use Rattle.turns.specs.Memory.{memoryOf}
-use Rattle.johnson.proofs.Shows.{memory-more, memory-roomy, Filling, fill-first, can-next, fill-last}
+use Rattle.turns.proofs.Firsts.{memory-more, memory-roomy}
+use Rattle.johnson.proofs.Shows.{Filling, fill-first, can-next, fill-last}
 
 abbrev Inv-loop : tie.InvT-loop
 Inv-loop m p marks offsets heads weights heights matrix₀ dist₀ preds₀ heap₀ places₀ keys₀ i₀ u₀ matrix dist preds heap places keys i u = Filling m p marks (listsOf offsets heads weights) heights matrix₀ matrix (memoryOf dist₀ preds₀ heap₀ places₀ keys₀) (memoryOf dist preds heap places keys) i u

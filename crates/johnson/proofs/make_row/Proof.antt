@@ -4,7 +4,8 @@ use borrow.Author.Needs.{needs}
 use Rattle.johnson.proofs.make_row.Statement.{statement}
 use Rattle.johnson.proofs.make_row.Tie as tie
 use native.Mathlib.Omega.{arith}
-use Rattle.johnson.proofs.Shows.{cheap, found, memory-none, memory-roomy, row-small, place-small, can-show, row-made, row-counted, row-skipped, row-not-counted}
+use Rattle.turns.proofs.Firsts.{memory-none, memory-roomy}
+use Rattle.johnson.proofs.Shows.{cheap, found, row-small, place-small, can-show, row-made, row-counted, row-skipped, row-not-counted}
 
 shared-slice-read-if1 : tie.Need-shared-slice-read-if1
 shared-slice-read-if1 c = search needs
