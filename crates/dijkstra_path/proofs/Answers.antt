@@ -9,11 +9,15 @@ use Prim.Native.Nat.{ℕ, _+_, _≤_, _<_}
 use native.Mathlib.Omega.{arith}
 use lib.Ieee.{Float, binary64, ofBits}
 use lib.ListN.{length}
-use Rattle.clean.specs.Fill.{filled}
-use Rattle.clean.specs.None.{noneF64, noneU32}
-use Rattle.clean.proofs.Filled.{filled-same}
+use lib.Seq.{getD-take}
+use Rattle.clean.specs.Fill.{filled, Settled}
+use Rattle.clean.specs.None.{noneF64, noneU32, shown}
+use Rattle.clean.proofs.Filled.{filled-same, settle}
 use Rattle.float.specs.Dist.{zero64}
-use Rattle.float.specs.Cutoff.{past}
+use Rattle.float.specs.Cutoff.{past, limitOf}
+use Rattle.float.specs.declared.Cutoff.the-variants.{At}
+use Rattle.float.proofs.Past.{past-limit}
+use Rattle.pending.proofs.Cutoff64.{same-cutoff64}
 use Rattle.float.specs.declared.Cutoff.{Cutoff}
 use Rattle.table.specs.Lent.{FloatCost}
 use Rattle.net.specs.Net.{Net, netOf64, OpenArcOf, insideNet, arcRoom}
@@ -25,8 +29,10 @@ use Rattle.rows.proofs.Maps.{open-room, open-are, open-sound, open-kept, ready-
 use Rattle.pending.specs.Floats.{search64}
 use Rattle.pending.proofs.One.{number-is, ends-map}
 use Rattle.turns.specs.Memory.{Memory, memoryOf}
+use Rattle.turns.specs.Firsts.{Roomy}
+use Rattle.turns.proofs.Firsts.{memory-roomy}
 use Rattle.dijkstra_path.specs.Promise.{Buffers, buffersOf, left, EndsIn, Promise, bad, done}
-use Rattle.dijkstra_path.specs.Parts.{refusalNo, Roomy, Ran}
+use Rattle.dijkstra_path.specs.Parts.{refusalNo, Ran}
 use Rattle.dijkstra_path.proofs.Refusals.{passed, whole-of, long-of}
 
 -- the lists of a search among the buffers
@@ -84,20 +90,21 @@ module _ (m n : ℕ) (d : Bool) (marks xs ys bs os : List ℕ) (s : ℕ) (b : Bu
             offsets = omega (arith, l .offsets, q .offsets .long);
             heads = omega (arith, l .heads, q .heads .long, is);
             weights = omega (arith, l .weights, q .weights .long, is);
-            lists = record {
-              dist = omega (arith, l .lists .dist, v .restD .long);
-              preds = omega (arith, l .lists .preds, v .restP .long);
-              heap = omega (arith, l .lists .heap, v .restH .long);
-              places = omega (arith, l .lists .places, v .restB .long);
-              keys = omega (arith, l .lists .keys, v .restK .long);
-            };
+            lists = memory-roomy roomy (v .ran .kept);
           }
 
+      -- the answers stand in the part used, the rest is as before
+      dists : no ≡ 0 → Settled m (λ x y. y ≡ shown noneF64 (v .ran .searched .end .dist x)) (b .dist) (M .dist)
+      dists e = settle noneF64 (roomy .dist) (v .ran .kept .dist .long) (λ x h. sym (getD-take m (M .dist) x noneF64 h) ∙ v .ran .searched .shows e .dist x) (v .ran .kept .dist .rest)
+
+      names : no ≡ 0 → Settled m (λ x y. y ≡ shown noneU32 (v .ran .searched .end .pred x)) (b .preds) (M .preds)
+      names e = settle noneU32 (roomy .preds) (v .ran .kept .preds .long) (λ x h. sym (getD-take m (M .preds) x noneU32 h) ∙ v .ran .searched .shows e .preds x) (v .ran .kept .preds .rest)
+
       -- the end over the open arcs of the map
-      ends-in : EndsIn (netOf64 m n d marks xs ys bs os) s k (v .end)
+      ends-in : EndsIn (netOf64 m n d marks xs ys bs os) s k (v .ran .searched .end)
       ends-in = record {
         run = ends-map (search64 (past k) none s) (RowArc m nb) (OpenArcOf (netOf64 m n d marks xs ys bs os)) (λ u w x. open-are (netOf64 m n d marks xs ys bs os) inside r u w x .0)
-            (λ u w x. open-are (netOf64 m n d marks xs ys bs os) inside r u w x .1) (v .run);
+            (λ u w x. open-are (netOf64 m n d marks xs ys bs os) inside r u w x .1) (same-cutoff64 (At (limitOf k)) k (λ x a. past-limit k x) s (RowArc m nb) (v .ran .searched .end) (v .ran .searched .ends));
       }
 
       -- what the wiping leaves
@@ -110,24 +117,24 @@ module _ (m n : ℕ) (d : Bool) (marks xs ys bs os : List ℕ) (s : ℕ) (b : Bu
             let eo = o-is ∙ filled-same (m + 1) 0 (nb .offsets) (b .offsets) (t .offsets .rest) in
             let eh = h-is ∙ ap (λ (j : ℕ). filled j 0 (nb .heads)) is ∙ filled-same (arcRoom d n) 0 (nb .heads) (b .heads) (t .heads .rest) in
             let ew = w-is ∙ ap (λ (j : ℕ). filled j 0 (nb .weights)) is ∙ filled-same (arcRoom d n) 0 (nb .weights) (b .weights) (t .weights .rest) in
-            let eq = q-is ∙ filled-same m 0 (M .heap) (b .heap) (v .restH .rest) in
-            let ei = i-is ∙ filled-same m 0 (M .places) (b .places) (v .restB .rest) in
-            let ey = y-is ∙ filled-same m (ofBits binary64 0) (M .keys) (b .keys) (v .restK .rest) in
+            let eq = q-is ∙ filled-same m 0 (M .heap) (b .heap) (v .ran .kept .heap .rest) in
+            let ei = i-is ∙ filled-same m 0 (M .places) (b .places) (v .ran .kept .places .rest) in
+            let ey = y-is ∙ filled-same m (ofBits binary64 0) (M .keys) (b .keys) (v .ran .kept .keys .rest) in
             λ j. buffersOf x p (eo j) (eh j) (ew j) (eq j) (ei j) (ey j)
 
         -- done
         pub answer-done : no ≡ 0 → Promise (netOf64 m n d marks xs ys bs os) s k b (buffersOf (M .dist) (M .preds) o h w q i y) 0
         answer-done e =
             let x = passed (netOf64 m n d marks xs ys bs os) s b ok in
-            done refl (x .0) (x .1) (x .2) (v .end) ends-in (sym (v .is) ∙ e) (record { dist = v .dist e; preds = v .preds e }) (wiped (M .dist) (M .preds))
+            done refl (x .0) (x .1) (x .2) (v .ran .searched .end) ends-in (sym (v .ran .searched .is) ∙ e) (record { dist = dists e; preds = names e }) (wiped (M .dist) (M .preds))
 
         -- a bad cost
         pub answer-bad : (no ≡ 0 → ⊥) → {x : List Float} {p : List ℕ} → x ≡ filled m noneF64 (M .dist) → p ≡ filled m noneU32 (M .preds) → Promise (netOf64 m n d marks xs ys bs os) s k b (buffersOf x p o h w q i y) no
-        answer-bad f {x} {p} ex ep = go (number-is (v .run))
+        answer-bad f {x} {p} ex ep = go (number-is (v .ran .searched .ends))
           where
-            go : (v .end .number ≡ 0) ⊎ (v .end .number ≡ 6) → Promise (netOf64 m n d marks xs ys bs os) s k b (buffersOf x p o h w q i y) no
-            go (inl z) = absurd (f (v .is ∙ z))
+            go : (v .ran .searched .end .number ≡ 0) ⊎ (v .ran .searched .end .number ≡ 6) → Promise (netOf64 m n d marks xs ys bs os) s k b (buffersOf x p o h w q i y) no
+            go (inl z) = absurd (f (v .ran .searched .is ∙ z))
             go (inr z) =
                 let t = passed (netOf64 m n d marks xs ys bs os) s b ok in
-                bad (v .is ∙ z) (t .0) (t .1) (t .2) (v .end) ends-in z
-                (wiped x p ∙ (λ j. left (netOf64 m n d marks xs ys bs os) b ((ex ∙ filled-same m noneF64 (M .dist) (b .dist) (v .restD .rest)) j) ((ep ∙ filled-same m noneU32 (M .preds) (b .preds) (v .restP .rest)) j)))
+                bad (v .ran .searched .is ∙ z) (t .0) (t .1) (t .2) (v .ran .searched .end) ends-in z
+                (wiped x p ∙ (λ j. left (netOf64 m n d marks xs ys bs os) b ((ex ∙ filled-same m noneF64 (M .dist) (b .dist) (v .ran .kept .dist .rest)) j) ((ep ∙ filled-same m noneU32 (M .preds) (b .preds) (v .ran .kept .preds .rest)) j)))

@@ -3,6 +3,5 @@ pub mod Tests
 pub mod Settles
 pub mod Entries
 pub mod Exact
-pub mod Runs
 pub mod Refusals
 pub mod Answers

@@ -11,8 +11,9 @@ use Rattle.whole.proofs.Cases.{and-left, and-right}
 use Rattle.table.specs.Lent.{FloatCost}
 use Rattle.net.specs.Net.{Net, wholeNet, insideNet, has, sizeOf}
 use Rattle.turns.specs.Memory.{memoryOf}
+use Rattle.turns.specs.Firsts.{Roomy}
 use Rattle.dijkstra_path.specs.Promise.{Buffers, longEnough, enough, Promise, short, outside, absent}
-use Rattle.dijkstra_path.specs.Parts.{refusalNo, Roomy}
+use Rattle.dijkstra_path.specs.Parts.{refusalNo}
 use Rattle.float.specs.declared.Cutoff.{Cutoff}
 
 module _ (g : Net FloatCost) (s : ℕ) (b : Buffers) where

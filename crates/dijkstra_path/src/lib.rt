@@ -13,9 +13,10 @@ ghost use Rattle.rows.specs.RowArc.{Sound};
 ghost use Rattle.turns.specs.Memory.{memoryOf, Fresh};
 ghost use Rattle.turns.specs.Row.{Safe, Looked, Opens, RowDone};
 ghost use Rattle.turns.specs.Searched.{Started, Searched};
+ghost use Rattle.turns.specs.Firsts.{Roomy};
 ghost use Rattle.dijkstra_path.specs.Search.{kind64};
 ghost use Rattle.dijkstra_path.specs.Promise.{buffersOf, longEnough, Promise};
-ghost use Rattle.dijkstra_path.specs.Parts.{refusalNo, Roomy, Ran};
+ghost use Rattle.dijkstra_path.specs.Parts.{refusalNo, Ran};
 
 // What looking at a row leaves: was a cost bad, and how many pairs are pending.
 pub struct Turn {

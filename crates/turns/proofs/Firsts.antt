@@ -70,9 +70,9 @@ module _ {K C : Type 0} (Y : Kind K C) {m : ℕ} {M : Memory K} (w : Roomy m M) 
   }
 
   -- nothing has a distance, nothing is pending
-  pub fresh : Y .order .shape (replicate m 0) (replicate m 0) → Fresh Y m (firsts m (memoryOf d p h i (M .keys)))
-  fresh shape = record {
-    shape = shape;
+  pub fresh : m ≤ 1024 → Fresh Y m (firsts m (memoryOf d p h i (M .keys)))
+  fresh few = record {
+    few = few;
     dist = filled-first m (Y .blank) (M .dist) d d-is;
     preds = filled-first m noneU32 (M .preds) p p-is;
     heap = filled-first m 0 (M .heap) h h-is;

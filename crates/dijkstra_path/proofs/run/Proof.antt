@@ -1,10 +1,12 @@
 -- `dijkstra_path::run` meets its contract.
 -- Assumes nothing.
+use mathlib.Core.Path.{sym}
 use borrow.Author.Needs.{needs}
 use Rattle.dijkstra_path.proofs.run.Statement.{statement}
 use Rattle.dijkstra_path.proofs.run.Tie as tie
-use Rattle.clean.specs.None.{noneF64, noneU32}
-use Rattle.dijkstra_path.proofs.Runs.{take-long, part-long, part-fresh, ran}
+use Rattle.turns.proofs.Firsts.{parts, fresh, ran}
+use Rattle.float.specs.Cutoff.{limitOf}
+use Rattle.dijkstra_path.specs.Search.{kind64}
 
 limit-requires : tie.Need-limit-requires
 limit-requires c κs = search needs
@@ -16,34 +18,34 @@ slice-relend-prefix-search-f64 : tie.Need-slice-relend-prefix-search-f64
 slice-relend-prefix-search-f64 c = search needs
 
 slice-aggregate-search-f64 : tie.Need-slice-aggregate-search-f64
-slice-aggregate-search-f64 c = let s = c .before .before .before .before .before .before .before .before .before .before .before .before .before .before .before .before .before .before .before .before .before .before .before in part-long (s .args .m) noneF64 (s .args .dist .now) (s .pre .1 .1 .dist) (c .before .before .before .before .before .before .before .before .before .prepare .ensures .0)
+slice-aggregate-search-f64 c = let t = c .before .before .before .before .before .before .before .before .before in let s = t .before .before .before .before .before .before .before .before .before .before .before .before .before .before in parts (kind64 (limitOf (s .args .cutoff))) (s .pre .1 .1) (t .prepare .ensures .0) (t .prepare .ensures .1 .0) (t .prepare .ensures .1 .1 .0) (t .prepare .ensures .1 .1 .1) .dist
 
 slice-relend-prefix-search-f64-2 : tie.Need-slice-relend-prefix-search-f64-2
 slice-relend-prefix-search-f64-2 c = search needs
 
 slice-aggregate-search-f64-2 : tie.Need-slice-aggregate-search-f64-2
-slice-aggregate-search-f64-2 c = let s = c .before .before .before .before .before .before .before .before .before .before .before .before .before .before .before .before .before .before .before .before .before .before .before .before in part-long (s .args .m) noneU32 (s .args .preds .now) (s .pre .1 .1 .preds) (c .before .before .before .before .before .before .before .before .before .before .prepare .ensures .1 .0)
+slice-aggregate-search-f64-2 c = let t = c .before .before .before .before .before .before .before .before .before .before in let s = t .before .before .before .before .before .before .before .before .before .before .before .before .before .before in parts (kind64 (limitOf (s .args .cutoff))) (s .pre .1 .1) (t .prepare .ensures .0) (t .prepare .ensures .1 .0) (t .prepare .ensures .1 .1 .0) (t .prepare .ensures .1 .1 .1) .preds
 
 slice-relend-prefix-search-f64-3 : tie.Need-slice-relend-prefix-search-f64-3
 slice-relend-prefix-search-f64-3 c = search needs
 
 slice-aggregate-search-f64-3 : tie.Need-slice-aggregate-search-f64-3
-slice-aggregate-search-f64-3 c = let s = c .before .before .before .before .before .before .before .before .before .before .before .before .before .before .before .before .before .before .before .before .before .before .before .before .before in part-long (s .args .m) 0 (s .args .heap .now) (s .pre .1 .1 .heap) (c .before .before .before .before .before .before .before .before .before .before .before .prepare .ensures .1 .1 .0)
+slice-aggregate-search-f64-3 c = let t = c .before .before .before .before .before .before .before .before .before .before .before in let s = t .before .before .before .before .before .before .before .before .before .before .before .before .before .before in parts (kind64 (limitOf (s .args .cutoff))) (s .pre .1 .1) (t .prepare .ensures .0) (t .prepare .ensures .1 .0) (t .prepare .ensures .1 .1 .0) (t .prepare .ensures .1 .1 .1) .heap
 
 slice-relend-prefix-search-f64-4 : tie.Need-slice-relend-prefix-search-f64-4
 slice-relend-prefix-search-f64-4 c = search needs
 
 slice-aggregate-search-f64-4 : tie.Need-slice-aggregate-search-f64-4
-slice-aggregate-search-f64-4 c = let s = c .before .before .before .before .before .before .before .before .before .before .before .before .before .before .before .before .before .before .before .before .before .before .before .before .before .before in part-long (s .args .m) 0 (s .args .places .now) (s .pre .1 .1 .places) (c .before .before .before .before .before .before .before .before .before .before .before .before .prepare .ensures .1 .1 .1)
+slice-aggregate-search-f64-4 c = let t = c .before .before .before .before .before .before .before .before .before .before .before .before in let s = t .before .before .before .before .before .before .before .before .before .before .before .before .before .before in parts (kind64 (limitOf (s .args .cutoff))) (s .pre .1 .1) (t .prepare .ensures .0) (t .prepare .ensures .1 .0) (t .prepare .ensures .1 .1 .0) (t .prepare .ensures .1 .1 .1) .places
 
 slice-relend-prefix-search-f64-5 : tie.Need-slice-relend-prefix-search-f64-5
 slice-relend-prefix-search-f64-5 c = search needs
 
 slice-aggregate-search-f64-5 : tie.Need-slice-aggregate-search-f64-5
-slice-aggregate-search-f64-5 c = let s = c .before .before .before .before .before .before .before .before .before .before .before .before .before .before .before .before .before .before .before .before .before .before .before .before .before .before .before in take-long (s .args .m) (s .args .keys .now) (s .pre .1 .1 .keys)
+slice-aggregate-search-f64-5 c = let t = c .before .before .before .before .before .before .before .before .before .before .before .before .before in let s = t .before .before .before .before .before .before .before .before .before .before .before .before .before .before in parts (kind64 (limitOf (s .args .cutoff))) (s .pre .1 .1) (t .prepare .ensures .0) (t .prepare .ensures .1 .0) (t .prepare .ensures .1 .1 .0) (t .prepare .ensures .1 .1 .1) .keys
 
 search-f64-requires : tie.Need-search-f64-requires
-search-f64-requires c κs = let s = c .before .before .before .before .before .before .before .before .before .before .before .before .before .before .before .before .before .before .before .before .before .before .before .before .before .before .before in (s .pre .0, (s .pre .1 .0, part-fresh (s .pre .1 .1) (c .before .before .before .before .before .before .before .before .before .before .before .before .before .prepare .ensures .0) (c .before .before .before .before .before .before .before .before .before .before .before .before .before .prepare .ensures .1 .0) (c .before .before .before .before .before .before .before .before .before .before .before .before .before .prepare .ensures .1 .1 .0) (c .before .before .before .before .before .before .before .before .before .before .before .before .before .prepare .ensures .1 .1 .1) (c .before .before .before .before .before .before .before .before .before .before .before .before .before .before .before .before .before .before .limit .result) (s .pre .0 .bounded)))
+search-f64-requires c κs = let t = c .before .before .before .before .before .before .before .before .before .before .before .before .before in let s = t .before .before .before .before .before .before .before .before .before .before .before .before .before .before in (s .pre .0, (s .pre .1 .0, fresh (kind64 (t .before .before .before .before .before .limit .result)) (s .pre .1 .1) (t .prepare .ensures .0) (t .prepare .ensures .1 .0) (t .prepare .ensures .1 .1 .0) (t .prepare .ensures .1 .1 .1) (s .pre .0 .bounded)))
 
 same-length : tie.Need-same-length
 same-length c = search needs
@@ -62,8 +64,12 @@ same-length-5 c = search needs
 
 returns : tie.Need-returns
 returns c =
-    let s = c .before .before .before .before .before .before .before .before .before .before .before .before .before .before .before .before .before .before .before .before .before .before .before .before .before .before .before .before .before .before .before .before .before .before .before .before .before .before in
-    ran (s .pre .1 .1) (c .before .before .before .before .before .before .before .before .before .before .before .before .before .before .before .before .before .before .before .before .before .before .before .before .prepare .ensures .0) (c .before .before .before .before .before .before .before .before .before .before .before .before .before .before .before .before .before .before .before .before .before .before .before .before .prepare .ensures .1 .0) (c .before .before .before .before .before .before .before .before .before .before .before .before .before .before .before .before .before .before .before .before .before .before .before .before .prepare .ensures .1 .1 .0) (c .before .before .before .before .before .before .before .before .before .before .before .before .before .before .before .before .before .before .before .before .before .before .before .before .prepare .ensures .1 .1 .1) (s .args .cutoff) (c .before .before .before .before .before .before .before .before .before .before .before .before .before .before .before .before .before .before .before .before .before .before .before .before .before .before .before .before .before .limit .ensures) _ _ _ _ _ (c .before .before .before .before .before .before .before .before .before .before .search-f64 .kept .1 .1 .1 .1 .1 .1 .0) (c .before .before .before .before .before .before .before .before .before .before .search-f64 .kept .1 .1 .1 .1 .1 .1 .1 .0) (c .before .before .before .before .before .before .before .before .before .before .search-f64 .kept .1 .1 .1 .1 .1 .1 .1 .1 .0) (c .before .before .before .before .before .before .before .before .before .before .search-f64 .kept .1 .1 .1 .1 .1 .1 .1 .1 .1 .0) (c .before .before .before .before .before .before .before .before .before .before .search-f64 .kept .1 .1 .1 .1 .1 .1 .1 .1 .1 .1 .0) (c .before .before .before .before .before .before .before .before .before .before .search-f64 .ensures)
+    let t = c .before .before .before .before .before .before .before .before .before .before .before .before .before .before .before .before .before .before .before .before .before .before .before .before in
+    let s = t .before .before .before .before .before .before .before .before .before .before .before .before .before .before in
+    let r = c .before .before .before .before .before .before .before .before .before .before in
+    let k = r .search-f64 .kept .1 .1 .1 .1 .1 .1 in
+    let e = t .before .before .before .before .before .limit in
+    record { takes = r .search-f64 .result .takes; ran = rw (sym (e .ensures)) (ran (kind64 (e .result)) (s .pre .1 .1) (t .prepare .ensures .0) (t .prepare .ensures .1 .0) (t .prepare .ensures .1 .1 .0) (t .prepare .ensures .1 .1 .1) _ _ _ _ _ (k .0) (k .1 .0) (k .1 .1 .0) (k .1 .1 .1 .0) (k .1 .1 .1 .1 .0) (r .search-f64 .ensures)) }
 
 pub run-spec : {M : Type 1} → statement M
 run-spec =

@@ -1,7 +1,6 @@
 -- `search::run` meets its contract.
 -- Assumes nothing.
 use borrow.Author.Needs.{needs}
-use Rattle.bag.proofs.Empty.{zeros-worded}
 use Rattle.turns.proofs.Firsts.{parts, fresh, ran}
 use Rattle.search.specs.Search.{guided}
 use Rattle.search.proofs.run.Statement.{statement}
@@ -45,7 +44,7 @@ slice-aggregate-search-5 : tie.Need-slice-aggregate-search-5
 slice-aggregate-search-5 c = let t = c .before .before .before .before .before .before .before .before .before .before .before .before in let s = t .before .before .before .before .before .before .before .before .before .before in parts (guided (s .args .guess .now)) (s .pre .1) (t .clear .ensures .0) (t .clear .ensures .1) (t .clear .ensures .2) (t .clear .ensures .3) .keys
 
 search-requires : tie.Need-search-requires
-search-requires c κs = let t = c .before .before .before .before .before .before .before .before .before .before .before .before in let s = t .before .before .before .before .before .before .before .before .before .before in (s .pre .0, fresh (guided (s .args .guess .now)) (s .pre .1) (t .clear .ensures .0) (t .clear .ensures .1) (t .clear .ensures .2) (t .clear .ensures .3) (zeros-worded (s .args .m) (s .pre .0 .rows .bounded)))
+search-requires c κs = let t = c .before .before .before .before .before .before .before .before .before .before .before .before in let s = t .before .before .before .before .before .before .before .before .before .before in (s .pre .0, fresh (guided (s .args .guess .now)) (s .pre .1) (t .clear .ensures .0) (t .clear .ensures .1) (t .clear .ensures .2) (t .clear .ensures .3) (s .pre .0 .rows .bounded))
 
 same-length : tie.Need-same-length
 same-length c = search needs
