@@ -39,8 +39,9 @@ double lengths[LINKS];
 struct map map = {0, 0, 0, from, to, costs, lengths};
 const char *kind, *asking;
 
-/* the queries on it, with their heuristics and pages */
+/* the queries on it, with their heuristics and pages, and the greatest f64 distance of each */
 struct query queries[QUERIES];
+double greatest[QUERIES];
 int64_t guesses[QUERIES][INDICES], pages[QUERIES][INDICES];
 static const int64_t no_guess[INDICES];
 
@@ -59,25 +60,29 @@ double given_real[INDICES];
 uint32_t given_nodes[INDICES];
 struct answer given = {0, given_whole, given_real, given_nodes, 0};
 
-/* What is measured. A* is asked with a heuristic that knows nothing (0) and with one that knows half. */
+/* What is measured. A* is asked with a heuristic that knows nothing (0) and with one that knows half; a
+   cutoff is a part of the greatest distance: all of it, so that it cuts nothing that counts, or less. */
 struct measure {
     const char *name;
     enum question question;
     int guided;
+    double part;
 };
 static const struct measure MEASURES[] = {
-    {"dijkstra", DIJKSTRA, 0},
-    {"a_star", A_STAR, 0},
-    {"a_star, guided", A_STAR, 1},
-    {"f64 search", F64, 0},
-    {"f64 search, cutoff", F64_CUTOFF, 0},
-    {"bellman_ford", BELLMAN_FORD, 0},
-    {"floyd_warshall", FLOYD_WARSHALL, 0},
-    {"johnson", JOHNSON, 0},
-    {"hops", HOPS, 0},
-    {"page check", PAGE, 0},
-    {"put, sent again", PUT_AGAIN, 0},
-    {"put, new link", PUT_NEW, 0},
+    {"dijkstra", DIJKSTRA, 0, 0},
+    {"a_star", A_STAR, 0, 0},
+    {"a_star, guided", A_STAR, 1, 0},
+    {"f64 search", F64, 0, 0},
+    {"f64 search, cutoff 1", F64_CUTOFF, 0, 1},
+    {"f64 search, cutoff 3/4", F64_CUTOFF, 0, 0.75},
+    {"f64 search, cutoff 1/2", F64_CUTOFF, 0, 0.5},
+    {"bellman_ford", BELLMAN_FORD, 0, 0},
+    {"floyd_warshall", FLOYD_WARSHALL, 0, 0},
+    {"johnson", JOHNSON, 0, 0},
+    {"hops", HOPS, 0, 0},
+    {"page check", PAGE, 0, 0},
+    {"put, sent again", PUT_AGAIN, 0, 0},
+    {"put, new link", PUT_NEW, 0, 0},
 };
 
 /* Ends the run. */
@@ -184,8 +189,8 @@ static void first_answer(const struct map *of, struct query query) {
     rivals[0].is->drop(graph);
 }
 
-/* Sources and targets; as guiding heuristic half of what is left to the target, as cutoff half of the
-   greatest distance, as page the right one. */
+/* Sources and targets; as guiding heuristic half of what is left to the target, as page the right one;
+   and the greatest distance, of which a cutoff is a part. */
 static void make_queries(void) {
     struct map back = map;
     back.from = to;
@@ -203,8 +208,8 @@ static void make_queries(void) {
         first_answer(&back, (struct query){.question = DIJKSTRA, .source = query->target});
         for (size_t u = 0; u < map.bound; u++) guesses[q][u] = given_whole[u] == NONE ? 0 : given_whole[u] / 2;
         first_answer(&map, (struct query){.question = F64, .source = query->source});
-        query->cutoff = 0;
-        for (size_t u = 0; u < map.bound; u++) query->cutoff = fmax(query->cutoff, given_real[u] / 2);
+        greatest[q] = 0;
+        for (size_t u = 0; u < map.bound; u++) greatest[q] = fmax(greatest[q], given_real[u]);
     }
 }
 
@@ -290,6 +295,7 @@ static double call(struct rival *rival, const struct measure *measure, size_t q)
     clockid_t clock = all_pairs(measure->question) ? CLOCK_THREAD_CPUTIME_ID : CLOCK_MONOTONIC;
     queries[q].question = measure->question;
     queries[q].guess = measure->guided ? guesses[q] : no_guess;
+    queries[q].cutoff = measure->part * greatest[q];
     double start = now(clock);
     enum outcome outcome = rival->is->ask(rival->graph, &queries[q]);
     double end = now(clock);

@@ -1,7 +1,7 @@
 -- The tests of the code are the pending bag's, and what they ask is there.
 -- Assumes nothing.
-use mathlib.Core.Path.{_≡_, sym, ap, subst, _∙_}
-use mathlib.Core.Bool.{Bool, false}
+use mathlib.Core.Path.{_≡_, refl, sym, ap, ap₂, subst, _∙_}
+use mathlib.Core.Bool.{Bool, true, false, not, _&&_, true≢false}
 use mathlib.Core.Logic.{_⊎_, inl, inr}
 use mathlib.Core.List.{List}
 use Prim.Native.Nat.{ℕ, _<_}
@@ -12,7 +12,7 @@ use Rattle.float.specs.Dist.{Dist, plus64}
 use Rattle.float.specs.Cost.{badCost}
 use Rattle.float.specs.Stored.{Stored, none, some}
 use Rattle.float.specs.Cutoff.{past}
-use Rattle.float.specs.Better.{betterThan}
+use Rattle.float.specs.Better.{betterThan, betterWithin}
 use Rattle.float.specs.declared.Cutoff.the-variants.{At}
 use Rattle.turns.specs.Row.{betterAt}
 use Rattle.clean.proofs.Filled.{no-default}
@@ -32,11 +32,26 @@ entry-stored l v h e = subst Stored (no-default l v noneF64 nan h) (go e)
 pub sum-dist : (d : Float) (b : ℕ) {x : Float} → x ≡ plus64 d b → Dist binary64 d → badCost binary64 b ≡ false → Dist binary64 x
 sum-dist d b e p g = subst (Dist binary64) (sym e) (plus-dist d b p g)
 
-module _ (limit : Float) (d : Float) (b : ℕ) {x : Float} (sum : x ≡ plus64 d b) where
-  -- past the cutoff, as the sum that was made says
-  pub cut-is : {s w : Bool} → s ≡ past (At limit) x → s ≡ w → past (At limit) (plus64 d b) ≡ w
-  cut-is e f = ap (past (At limit)) (sym sum) ∙ sym e ∙ f
+module _ (limit : Float) (d : Float) (b : ℕ) {x : Float} (sum : x ≡ plus64 d b) (l : List Float) (v : ℕ) (h : v < length l) where
+  -- what one arc asks, of the sum that was made
+  tests : betterWithin limit x (getD l v nan) ≡ not (past (At limit) (plus64 d b)) && betterAt (kind64 limit) (plus64 d b) (getD l v noneF64)
+  unfolding betterWithin
+  tests = ap₂ (λ (z : Float) (y : Bool). not (past (At limit) z) && y) sum (ap (λ (z : Float). betterThan z (getD l v nan)) sum ∙ better-at limit (plus64 d b) (getD l v nan) ∙ ap (λ (z : Float). betterAt (kind64 limit) (plus64 d b) z) (no-default l v nan noneF64 h))
 
-  -- better than what stands there
-  pub better-is : {s w : Bool} (l : List Float) (v : ℕ) → v < length l → s ≡ betterThan x (getD l v nan) → s ≡ w → betterAt (kind64 limit) (plus64 d b) (getD l v noneF64) ≡ w
-  better-is l v h e f = ap (λ (z : Float). betterAt (kind64 limit) (plus64 d b) z) (no-default l v noneF64 nan h) ∙ sym (better-at limit (plus64 d b) (getD l v nan)) ∙ ap (λ (z : Float). betterThan z (getD l v nan)) (sym sum) ∙ sym e ∙ f
+  -- yes: it is not past the cutoff, and better than what stands there
+  pub stored-is : {s : Bool} → s ≡ betterWithin limit x (getD l v nan) → s ≡ true → (past (At limit) (plus64 d b) ≡ false) × (betterAt (kind64 limit) (plus64 d b) (getD l v noneF64) ≡ true)
+  stored-is e f = go (past (At limit) (plus64 d b)) (betterAt (kind64 limit) (plus64 d b) (getD l v noneF64)) (sym tests ∙ sym e ∙ f)
+    where
+      go : (t u : Bool) → (not t && u) ≡ true → (t ≡ false) × (u ≡ true)
+      go false true z = (refl, refl)
+      go false false z = absurd (true≢false (sym z))
+      go true u z = absurd (true≢false (sym z))
+
+  -- no: it is past it, or no better
+  pub left-is : {s : Bool} → s ≡ betterWithin limit x (getD l v nan) → s ≡ false → (past (At limit) (plus64 d b) ≡ true) ⊎ ((past (At limit) (plus64 d b) ≡ false) × (betterAt (kind64 limit) (plus64 d b) (getD l v noneF64) ≡ false))
+  left-is e f = go (past (At limit) (plus64 d b)) (betterAt (kind64 limit) (plus64 d b) (getD l v noneF64)) (sym tests ∙ sym e ∙ f)
+    where
+      go : (t u : Bool) → (not t && u) ≡ false → (t ≡ true) ⊎ ((t ≡ false) × (u ≡ false))
+      go true u z = inl refl
+      go false false z = inr (refl, refl)
+      go false true z = absurd (true≢false z)

@@ -64,10 +64,7 @@ fn look_arc(
     ensures { λ r. ⌜ Looked (kind64 limit) u d v bits size (memoryOf (now (dist .entry)) (now (preds .entry)) (now (heap .entry)) (now (places .entry)) (now (keys .entry))) (memoryOf (now (dist .exit)) (now (preds .exit)) (now (heap .exit)) (now (places .exit)) (now (keys .exit))) r ⌝ }
 {
     let next = float::plus(d, bits);
-    if float::cuts(limit, next) {
-        return size;
-    }
-    if !float::better(next, dist[v]) {
+    if !float::better(limit, next, dist[v]) {
         return size;
     }
     store(dist, v, next);

@@ -1,12 +1,13 @@
 // f64 costs, lent as bit patterns, and f64 distances: what one arc of a search does with them.
 ghost use mathlib.Core.Path.{_≡_};
-ghost use mathlib.Core.Bool.{false};
+ghost use mathlib.Core.Bool.{false, cond};
 ghost use lib.Ieee.{binary64};
+ghost use Rattle.clean.specs.None.{noneF64};
 ghost use Rattle.float.specs.Dist.{Dist, plus64};
 ghost use Rattle.float.specs.Cost.{badCost};
 ghost use Rattle.float.specs.Cutoff.{limitOf, past};
 ghost use Rattle.float.specs.declared.Cutoff.the-variants.{At};
-ghost use Rattle.float.specs.Better.{betterThan};
+ghost use Rattle.float.specs.Better.{betterWithin};
 ghost use Rattle.float.specs.Stored.{Stored};
 
 // A cutoff: none, or at a value, which may be any.
@@ -41,18 +42,29 @@ pub fn limit(cutoff: Cutoff) -> f64
 }
 
 // Is the total past the cutoff at that value?
-pub fn cuts(limit: f64, next: f64) -> bool
+fn cuts(limit: f64, next: f64) -> bool
     ensures { λ r. ⌜ r ≡ past (At limit) next ⌝ }
 {
     next > limit
 }
 
-// Is the total to be stored over what is there? The pattern of none is above that of every distance.
+// The total as it counts: none where it is past the cutoff at that value.
+fn counted(limit: f64, next: f64) -> f64
+    ensures { λ r. ⌜ r ≡ cond (past (At limit) next) noneF64 next ⌝ }
+{
+    if cuts(limit, next) {
+        return clean::NONE_F64;
+    }
+    next
+}
+
+// Is the total to be stored over what is there? The pattern of none is above that of every distance, so one comparison tells;
+// and a total that is past the limit counts as none, since whether it is past is what no processor can foresee.
 // Shut out: a total that is no distance, and what is neither none nor a distance.
-pub fn better(next: f64, stored: f64) -> bool
+pub fn better(limit: f64, next: f64, stored: f64) -> bool
     requires { ⌜ Dist binary64 next ⌝ }
     requires { ⌜ Stored stored ⌝ }
-    ensures { λ r. ⌜ r ≡ betterThan next stored ⌝ }
+    ensures { λ r. ⌜ r ≡ betterWithin limit next stored ⌝ }
 {
-    f64::to_bits(next) < f64::to_bits(stored)
+    f64::to_bits(counted(limit, next)) < f64::to_bits(stored)
 }

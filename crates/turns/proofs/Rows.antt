@@ -2,7 +2,7 @@
 -- Assumes nothing.
 use mathlib.Core.Path.{_≡_, refl, sym, ap, _∙_, subst}
 use mathlib.Core.Bool.{Bool, true, false}
-use mathlib.Core.Logic.{inl, inr}
+use mathlib.Core.Logic.{_⊎_, inl, inr}
 use mathlib.Core.Option.{Option, some}
 use Prim.Native.Nat.{ℕ, _+_, _-_, _≤_, _<_}
 use native.Mathlib.Omega.{arith}
@@ -32,6 +32,11 @@ arc-here {i} a b l h w = record { at = i; row = a; from = b; to = l; head = sym 
 -- the cost at a place of the row, whatever stands for a missing one
 pub cost-here : {C : Type 0} {m : ℕ} {nb : Lists C} {u i : ℕ} (x : C) → Sound m nb → u < m → i < getD (nb .offsets) (u + 1) 0 → (z : C) → getD (nb .weights) i z ≡ getD (nb .weights) i x
 cost-here {nb} {u} {i} x s a l z = no-default (nb .weights) i z x (omega (arith, s .weights u a))
+
+-- an arc that stores nothing: its total is past the cutoff, or no better
+pub looked-left : {K C : Type 0} {Y : Kind K C} {u : ℕ} {d : K} {v : ℕ} {c : C} {n : ℕ} {M : Memory K} → (Y .cut (Y .plus d c) ≡ true) ⊎ ((Y .cut (Y .plus d c) ≡ false) × (betterAt Y (Y .plus d c) (getD (M .dist) v (Y .blank)) ≡ false)) → Looked Y u d v c n M M n
+looked-left (inl a) = past a refl refl
+looked-left (inr b) = kept (b .0) (b .1) refl refl
 
 module _ {K C : Type 0} {Y : Kind K C} {ok : K → Type 0} (W : Lawful Y ok) where
   -- the test of the code is the pending bag's

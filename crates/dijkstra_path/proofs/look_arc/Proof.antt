@@ -1,9 +1,6 @@
 -- `dijkstra_path::look_arc` meets its contract.
 -- Assumes nothing.
-use borrow.Author.Needs.{needs}
-use Rattle.dijkstra_path.proofs.look_arc.Statement.{statement}
-use Rattle.dijkstra_path.proofs.look_arc.Tie as tie
-use mathlib.Core.Path.{refl, sym, ap, subst, _∙_}
+use mathlib.Core.Path.{sym, ap, subst, _∙_}
 use mathlib.Core.Option.{some}
 use lib.ListN.{set}
 use lib.Ieee.{Float}
@@ -11,17 +8,22 @@ use borrow.Author.Tests.{not-true, not-false}
 use Rattle.bag.specs.Floats.{floats}
 use Rattle.bag.specs.Content.{contentOf}
 use Rattle.bag.specs.Bag.{NotAbove}
-use Rattle.turns.specs.Row.{past, kept, stored}
-use Rattle.dijkstra_path.proofs.Tests.{entry-stored, sum-dist, cut-is, better-is}
+use Rattle.turns.specs.Row.{stored}
+use Rattle.turns.proofs.Rows.{looked-left}
+use Rattle.dijkstra_path.proofs.Tests.{entry-stored, sum-dist, stored-is, left-is}
+use borrow.Author.Needs.{needs}
+use Rattle.dijkstra_path.proofs.look_arc.Statement.{statement}
+use Rattle.dijkstra_path.proofs.look_arc.Tie as tie
+use Rattle.dijkstra_path.proofs.look_arc.Reads as reads
+use Rattle.dijkstra_path.proofs.look_arc.Lts as lts
+use Rattle.bag.proofs.floats.push_or_lower.Reads as push-or-lower-reads
+use Rattle.dijkstra_path.proofs.name.Reads as name-reads
+use Rattle.dijkstra_path.proofs.store.Reads as store-reads
+use Rattle.float.proofs.better.Reads as better-reads
+use Rattle.float.proofs.plus.Reads as plus-reads
 
 plus-requires : tie.Need-plus-requires
 plus-requires c κs = search needs
-
-cuts-requires : tie.Need-cuts-requires
-cuts-requires c κs = search needs
-
-returns : tie.Need-returns
-returns c = let s = c .before .before .before .before .before .before .before .before in past (cut-is (s .args .limit) (s .args .d) (s .args .bits) (c .before .before .plus .ensures) (c .before .cuts .ensures) (c .if1 .taken)) refl refl
 
 mul-better : tie.Need-mul-better
 mul-better c = search needs
@@ -31,14 +33,15 @@ slice-read-better c = search needs
 
 better-requires : tie.Need-better-requires
 better-requires c κs =
-    let s = c .before .before .before .before .before .before .before .before .before in
-    (sum-dist (s .args .d) (s .args .bits) (c .before .before .before .plus .ensures) (s .pre .dist) (s .pre .cost), entry-stored (s .args .dist .now) (s .args .v) (s .pre .inD) (s .pre .entry))
+    let t = c .before in
+    let s = c .before .before .before .before .before .before .before in
+    (sum-dist (s .args .d) (s .args .bits) (t .plus .ensures) (s .pre .dist) (s .pre .cost), entry-stored (s .args .dist .now) (s .args .v) (s .pre .inD) (s .pre .entry))
 
-returns-2 : tie.Need-returns-2
-returns-2 c =
-    let s = c .before .before .before .before .before .before .before .before .before .before .before in
-    kept (cut-is (s .args .limit) (s .args .d) (s .args .bits) (c .before .before .before .before .before .plus .ensures) (c .before .before .before .before .cuts .ensures) (c .before .before .before .if1 .left))
-    (better-is (s .args .limit) (s .args .d) (s .args .bits) (c .before .before .before .before .before .plus .ensures) (s .args .dist .now) (s .args .v) (s .pre .inD) (c .before .better .ensures) (not-true _ (c .if2 .taken))) refl refl
+returns : tie.Need-returns
+returns c =
+    let t = c .before .before .before in
+    let s = c .before .before .before .before .before .before .before .before .before in
+    looked-left (left-is (s .args .limit) (s .args .d) (s .args .bits) (t .plus .ensures) (s .args .dist .now) (s .args .v) (s .pre .inD) (c .before .better .ensures) (not-true _ (c .if1 .taken)))
 
 store-requires : tie.Need-store-requires
 store-requires c κs = search needs
@@ -51,14 +54,15 @@ name-requires c κs = search needs
 
 push-or-lower-requires : tie.Need-push-or-lower-requires
 push-or-lower-requires c κs =
-    let s = c .before .before .before .before .before .before .before .before .before .before .before .before .before .before .before .before .before .before .before .before .before .before in
-    let b = better-is (s .args .limit) (s .args .d) (s .args .bits) (c .before .before .before .before .before .before .before .before .before .before .before .before .before .before .before .before .plus .ensures) (s .args .dist .now) (s .args .v) (s .pre .inD) (c .before .before .before .before .before .before .before .before .before .before .before .before .better .ensures) (not-false _ (c .before .before .before .before .before .before .before .before .before .before .before .if2 .left)) in (
+    let t = c .before .before .before .before .before .before .before .before .before .before .before .before .before .before in
+    let s = c .before .before .before .before .before .before .before .before .before .before .before .before .before .before .before .before .before .before .before .before in
+    let b = stored-is (s .args .limit) (s .args .d) (s .args .bits) (t .plus .ensures) (s .args .dist .now) (s .args .v) (s .pre .inD) (c .before .before .before .before .before .before .before .before .before .before .before .before .better .ensures) (not-false _ (c .before .before .before .before .before .before .before .before .before .before .before .if1 .left)) in (
       s .pre .bag,
       (
         s .pre .inB,
         (
-          subst (NotAbove floats (contentOf (s .args .places .now) (s .args .keys .now)) (s .args .v)) (sym (c .before .before .before .before .before .before .before .before .before .before .before .before .before .before .before .before .plus .ensures)) (s .pre .lower b),
-          sum-dist (s .args .d) (s .args .bits) (c .before .before .before .before .before .before .before .before .before .before .before .before .before .before .before .before .plus .ensures) (s .pre .dist) (s .pre .cost),
+          subst (NotAbove floats (contentOf (s .args .places .now) (s .args .keys .now)) (s .args .v)) (sym (t .plus .ensures)) (s .pre .lower (b .1)),
+          sum-dist (s .args .d) (s .args .bits) (t .plus .ensures) (s .pre .dist) (s .pre .cost),
         ),
       ),
     )
@@ -78,27 +82,27 @@ same-length-4 c = search needs
 same-length-5 : tie.Need-same-length-5
 same-length-5 c = search needs
 
-returns-3 : tie.Need-returns-3
-returns-3 c =
-    let s = c .before .before .before .before .before .before .before .before .before .before .before .before .before .before .before .before .before .before .before .before .before .before .before .before .before .before .before .before .before in
-    stored (cut-is (s .args .limit) (s .args .d) (s .args .bits) (c .before .before .before .before .before .before .before .before .before .before .before .before .before .before .before .before .before .before .before .before .before .before .before .plus .ensures) (c .before .before .before .before .before .before .before .before .before .before .before .before .before .before .before .before .before .before .before .before .before .before .cuts .ensures) (c .before .before .before .before .before .before .before .before .before .before .before .before .before .before .before .before .before .before .before .before .before .if1 .left))
-    (better-is (s .args .limit) (s .args .d) (s .args .bits) (c .before .before .before .before .before .before .before .before .before .before .before .before .before .before .before .before .before .before .before .before .before .before .before .plus .ensures) (s .args .dist .now) (s .args .v) (s .pre .inD) (c .before .before .before .before .before .before .before .before .before .before .before .before .before .before .before .before .before .before .before .better .ensures) (not-false _ (c .before .before .before .before .before .before .before .before .before .before .before .before .before .before .before .before .before .before .if2 .left)))
-    (c .before .before .before .before .before .before .before .before .before .before .before .before .before .before .before .before .store .ensures ∙ ap (set (s .args .dist .now) (s .args .v)) (c .before .before .before .before .before .before .before .before .before .before .before .before .before .before .before .before .before .before .before .before .before .before .before .plus .ensures))
+returns-2 : tie.Need-returns-2
+returns-2 c =
+    let t = c .before .before .before .before .before .before .before .before .before .before .before .before .before .before .before .before .before .before .before .before .before in
+    let s = c .before .before .before .before .before .before .before .before .before .before .before .before .before .before .before .before .before .before .before .before .before .before .before .before .before .before .before in
+    let b = stored-is (s .args .limit) (s .args .d) (s .args .bits) (t .plus .ensures) (s .args .dist .now) (s .args .v) (s .pre .inD) (c .before .before .before .before .before .before .before .before .before .before .before .before .before .before .before .before .before .before .before .better .ensures) (not-false _ (c .before .before .before .before .before .before .before .before .before .before .before .before .before .before .before .before .before .before .if1 .left)) in
+    let p = c .before .before .before .before .before .before .push-or-lower .ensures in
+    stored (b .0) (b .1)
+    (c .before .before .before .before .before .before .before .before .before .before .before .before .before .before .before .before .store .ensures ∙ ap (set (s .args .dist .now) (s .args .v)) (t .plus .ensures))
     (c .before .before .before .before .before .before .before .before .before .before .before .before .name .ensures)
-    (c .before .before .before .before .before .before .push-or-lower .ensures .0)
-    (c .before .before .before .before .before .before .push-or-lower .ensures .1 ∙ ap (λ (z : Float). set (contentOf (s .args .places .now) (s .args .keys .now)) (s .args .v) (some z)) (c .before .before .before .before .before .before .before .before .before .before .before .before .before .before .before .before .before .before .before .before .before .before .before .plus .ensures))
+    (p .0)
+    (p .1 ∙ ap (λ (z : Float). set (contentOf (s .args .places .now) (s .args .keys .now)) (s .args .v) (some z)) (t .plus .ensures))
 
 pub look-arc-spec : {M : Type 1} → statement M
 look-arc-spec =
     tie.close
     (tie.spec
     plus-requires
-    cuts-requires
-    returns
     mul-better
     slice-read-better
     better-requires
-    returns-2
+    returns
     store-requires
     cast-name
     name-requires
@@ -108,4 +112,4 @@ look-arc-spec =
     same-length-3
     same-length-4
     same-length-5
-    returns-3)
+    returns-2)
