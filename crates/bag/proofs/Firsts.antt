@@ -54,31 +54,33 @@ first-eight l i end w p e s =
     let n : span i end ≡ 8 = omega (arith, p) in
     subst (λ (x : ℕ). FirstOf l i x w (firstFrom l i 7 w)) (sym n) (first-is l i 7 w (subst (λ (x : ℕ). Has l i x w) n (subst (Has l i (span i end)) (sym e) (peak-has l i (span i end) (subst (λ (x : ℕ). 0 < x) e s)))))
 
--- w is not among the entries from i to k, and is further on
-pub record Seeking (l : List ℕ) (i end w k : ℕ) : Type 0 where
-  pub from : i ≤ k
-  pub ahead : Has l k (end - k) w
-  pub none : (j : ℕ) → i ≤ j → j < k → getD l j 0 ≡ w → ⊥
-
-pub seek-begin : (l : List ℕ) (i end w : ℕ) → w ≡ peak l i (end - i) → 0 < w → Seeking l i end w i
-seek-begin l i end w e s = record { from = omega arith; ahead = subst (Has l i (end - i)) (sym e) (peak-has l i (end - i) (subst (λ (x : ℕ). 0 < x) e s)); none = λ j a b z. omega (arith, a, b) }
-
-pub seek-inside : (l : List ℕ) (i end w k : ℕ) → Seeking l i end w k → k < end
-seek-inside l i end w k S = omega (arith, S .ahead .from, S .ahead .to)
-
-pub seek-next : (l : List ℕ) (i end w k : ℕ) → Seeking l i end w k → (getD l k 0 ≡ w → ⊥) → Seeking l i end w (k + 1)
-seek-next l i end w k S n = record {
-  from = omega (arith, S .from);
-  ahead = let h = S .ahead in let later : h .at ≡ k → ⊥ = λ z. n (subst (λ (x : ℕ). getD l x 0 ≡ w) z (h .is)) in record { at = h .at; from = omega (arith, h .from, later); to = omega (arith, h .from, h .to, later); is = h .is };
-  none = λ j a b z. go j a b z (ℕ-discrete j k);
-}
+-- the largest of n entries is among them, whether or not the last is looked at
+pub first-found : (l : List ℕ) (i n w : ℕ) → Has l i n w → FirstOf l i n w (firstFrom l i n w)
+first-found l i n w h = go (first-is l i n w (record { at = h .at; from = h .from; to = omega (arith, h .to); is = h .is }))
   where
-    go : (j : ℕ) → i ≤ j → j < k + 1 → getD l j 0 ≡ w → Dec (j ≡ k) → ⊥
-    go j a b z (yes d) = n (subst (λ (x : ℕ). getD l x 0 ≡ w) d z)
-    go j a b z (no d) = S .none j a (omega (arith, b, d)) z
+    go : FirstOf l i (suc n) w (firstFrom l i n w) → FirstOf l i n w (firstFrom l i n w)
+    go F = record { from = F .from; to = near (ltb (h .at) (firstFrom l i n w)) refl; is = F .is; no-sooner = F .no-sooner }
+      where
+        near : (t : Bool) → ltb (h .at) (firstFrom l i n w) ≡ t → firstFrom l i n w < i + n
+        near true e = absurd (F .no-sooner (h .at) (h .from) (ltb-true (h .at) (firstFrom l i n w) e) (h .is))
+        near false e = omega (arith, h .to, ltb-false (h .at) (firstFrom l i n w) e)
 
-pub seek-end : (l : List ℕ) (i end w k : ℕ) → Seeking l i end w k → getD l k 0 ≡ w → FirstOf l i (end - i) w k
-seek-end l i end w k S e = record { from = S .from; to = omega (arith, S .from, seek-inside l i end w k S); is = e; no-sooner = S .none }
+-- looked for from the end on
+pub first-rest : (l : List ℕ) (i end w : ℕ) → w ≡ peak l i (end - i) → 0 < w → FirstOf l i (end - i) w (firstFrom l i (end - i) w)
+first-rest l i end w e s = first-found l i (end - i) w (subst (Has l i (end - i)) (sym e) (peak-has l i (end - i) (subst (λ (x : ℕ). 0 < x) e s)))
+
+-- there is an entry to look at
+pub rest-room : (l : List ℕ) (i end w : ℕ) → w ≡ peak l i (end - i) → 0 < w → i ≤ end
+rest-room l i end w e s = let h = peak-has l i (end - i) (subst (λ (x : ℕ). 0 < x) e s) in omega (arith, h .from, h .to)
+
+-- the end, and one entry before
+pub rest-none : (l : List ℕ) (end w : ℕ) → end ≡ firstFrom l end (end - end) w
+rest-none l end w = let z : end - end ≡ 0 = omega arith in rw z (sym (first-none l end w))
+
+pub rest-more : (l : List ℕ) (k end w r s : ℕ) → 0 < k → k ≤ end → r ≡ firstFrom l k (end - k) w → s ≡ pick (eqb (getD l (k - 1) 0) w) (k - 1) r → s ≡ firstFrom l (k - 1) (end - (k - 1)) w
+rest-more l k end w r s p q e f =
+    let n : suc (end - k) ≡ end - (k - 1) = omega (arith, p, q) in
+    subst (λ (x : ℕ). s ≡ firstFrom l (k - 1) x w) n (first-step l (k - 1) (end - k) w k r s (omega (arith, p)) e f)
 
 -- where something is larger than 0 there is an entry
 pub peak-room : (l : List ℕ) (i : ℕ) → 0 < peak l i (length l) → 0 < length l

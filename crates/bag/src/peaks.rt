@@ -20,7 +20,7 @@ fn larger(a: usize, b: usize) -> usize
 
 // The largest of two words from i on.
 fn of_two(list: &[usize], i: usize) -> usize
-    requires { ⌜ (i + 2 ≤ length (now list)) × (i ≤ 1030) ⌝ }
+    requires { ⌜ (i + 2 ≤ length (now list)) × (length (now list) ≤ 1024) ⌝ }
     ensures { λ r. ⌜ r ≡ peak (now (list .entry)) i 2 ⌝ }
 {
     larger(list[i], list[i + 1])
@@ -28,7 +28,7 @@ fn of_two(list: &[usize], i: usize) -> usize
 
 // The largest of four.
 fn of_four(list: &[usize], i: usize) -> usize
-    requires { ⌜ (i + 4 ≤ length (now list)) × (i ≤ 1028) ⌝ }
+    requires { ⌜ (i + 4 ≤ length (now list)) × (length (now list) ≤ 1024) ⌝ }
     ensures { λ r. ⌜ r ≡ peak (now (list .entry)) i 4 ⌝ }
 {
     larger(of_two(list, i), of_two(list, i + 2))
@@ -36,7 +36,7 @@ fn of_four(list: &[usize], i: usize) -> usize
 
 // The largest of eight.
 fn of_eight(list: &[usize], i: usize) -> usize
-    requires { ⌜ (i + 8 ≤ length (now list)) × (i ≤ 1024) ⌝ }
+    requires { ⌜ (i + 8 ≤ length (now list)) × (length (now list) ≤ 1024) ⌝ }
     ensures { λ r. ⌜ r ≡ peak (now (list .entry)) i 8 ⌝ }
 {
     larger(of_four(list, i), of_four(list, i + 4))
@@ -44,7 +44,7 @@ fn of_eight(list: &[usize], i: usize) -> usize
 
 // The largest of the words from i on that stand before the end, few as they are.
 fn of_rest(list: &[usize], i: usize, end: usize) -> usize
-    requires { ⌜ (end ≤ length (now list)) × (end ≤ 1024) ⌝ }
+    requires { ⌜ (end ≤ length (now list)) × (length (now list) ≤ 1024) ⌝ }
     ensures { λ r. ⌜ r ≡ peak (now (list .entry)) i (end - i) ⌝ }
 {
     let mut w: usize = 0;
@@ -58,7 +58,7 @@ fn of_rest(list: &[usize], i: usize, end: usize) -> usize
 
 // The largest of the eight words from i on, or of those of them that stand before the end.
 fn of_group(list: &[usize], i: usize, end: usize) -> usize
-    requires { ⌜ (end ≤ length (now list)) × (end ≤ 1024) × (i ≤ 1024) ⌝ }
+    requires { ⌜ (end ≤ length (now list)) × (length (now list) ≤ 1024) × (i ≤ 1024) ⌝ }
     ensures { λ r. ⌜ r ≡ peak (now (list .entry)) i (span i end) ⌝ }
 {
     if i + 8 <= end {
@@ -132,7 +132,7 @@ fn sooner(list: &[usize], i: usize, w: usize, r: usize) -> usize
 
 // The first of eight entries from i on that is w, one of which is.
 fn first_of_eight(list: &[usize], i: usize, w: usize) -> usize
-    requires { ⌜ (i + 8 ≤ length (now list)) × (i ≤ 1024) ⌝ }
+    requires { ⌜ (i + 8 ≤ length (now list)) × (length (now list) ≤ 1024) ⌝ }
     ensures { λ r. ⌜ r ≡ firstFrom (now (list .entry)) i 7 w ⌝ }
 {
     let g = sooner(list, i + 6, w, i + 7);
@@ -146,20 +146,22 @@ fn first_of_eight(list: &[usize], i: usize, w: usize) -> usize
 
 // The first entry from i on that is w, which is the largest of those before the end, few as they are.
 fn first_of_rest(list: &[usize], i: usize, end: usize, w: usize) -> usize
-    requires { ⌜ (end ≤ length (now list)) × (end ≤ 1024) ⌝ }
+    requires { ⌜ (end ≤ length (now list)) × (length (now list) ≤ 1024) ⌝ }
     requires { ⌜ (w ≡ peak (now list) i (end - i)) × (0 < w) ⌝ }
     ensures { λ r. ⌜ FirstOf (now (list .entry)) i (end - i) w r ⌝ }
 {
-    let mut k = i;
-    while list[k] != w {
-        k += 1;
+    let mut r = end;
+    let mut k = end;
+    while i < k {
+        k = k - 1;
+        r = sooner(list, k, w, r);
     }
-    k
+    r
 }
 
 // The same, of the eight entries from i on, or of those of them that stand before the end.
 fn first_of_group(list: &[usize], i: usize, end: usize, w: usize) -> usize
-    requires { ⌜ (end ≤ length (now list)) × (end ≤ 1024) × (i ≤ 1024) ⌝ }
+    requires { ⌜ (end ≤ length (now list)) × (length (now list) ≤ 1024) × (i ≤ 1024) ⌝ }
     requires { ⌜ (w ≡ peak (now list) i (span i end)) × (0 < w) ⌝ }
     ensures { λ r. ⌜ FirstOf (now (list .entry)) i (span i end) w r ⌝ }
 {

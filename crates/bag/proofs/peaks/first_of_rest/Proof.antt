@@ -1,50 +1,49 @@
 -- `bag::peaks::first_of_rest` meets its contract. Assumes nothing.
-use Prim.Native.Nat.{_-_}
+use mathlib.Core.Path.{_≡_, ap, _∙_}
+use Prim.Native.Nat.{ℕ, _-_, _≤_}
 use native.Mathlib.Omega.{arith}
-use Rattle.bag.proofs.Firsts.{Seeking, seek-begin, seek-inside, seek-next, seek-end}
+use Rattle.bag.specs.Peaks.{firstFrom}
+use Rattle.bag.proofs.Firsts.{first-rest, rest-room, rest-none, rest-more}
 use borrow.Author.Needs.{needs}
 use Rattle.bag.proofs.peaks.first_of_rest.Statement.{statement}
 use Rattle.bag.proofs.peaks.first_of_rest.Tie as tie
 use Rattle.bag.proofs.peaks.first_of_rest.Reads as reads
 use Rattle.bag.proofs.peaks.first_of_rest.Lts as lts
+use Rattle.bag.proofs.peaks.sooner.Reads as sooner-reads
 
 abbrev Inv-loop : tie.InvT-loop
-Inv-loop list i end w k₀ k = Seeking list i end w k
+Inv-loop list i end w r₀ k₀ r k = (i ≤ k) × (k ≤ end) × (r ≡ firstFrom list k (end - k) w)
 
 abbrev μ-loop : tie.MeasureT-loop
-μ-loop list i end w k₀ k = end - k
+μ-loop list i end w r₀ k₀ r k = k
 
 loop-holds : tie.Need-loop-holds Inv-loop μ-loop
-loop-holds c = seek-begin _ _ _ _ (c .pre .1 .0) (c .pre .1 .1)
+loop-holds c = let s = c .before in (rest-room _ _ _ _ (s .pre .1 .0) (s .pre .1 .1), omega arith, rest-none _ _ _)
 
-mul-if1 : tie.Need-mul-if1 Inv-loop μ-loop
-mul-if1 c = search needs
+sub-k : tie.Need-sub-k Inv-loop μ-loop
+sub-k c = search needs
 
-shared-slice-read-if1 : tie.Need-shared-slice-read-if1 Inv-loop μ-loop
-shared-slice-read-if1 c = omega (arith, c .before .before .pre .0 .0, seek-inside _ _ _ _ _ (c .before .loop .inv))
-
-add-k : tie.Need-add-k Inv-loop μ-loop
-add-k c = let l = c .before .before in record { fits = omega (arith, l .before .pre .0 .1, seek-inside _ _ _ _ _ (l .loop .inv)) }
+sooner-requires : tie.Need-sooner-requires Inv-loop μ-loop
+sooner-requires c κs = let l = c .before in omega (arith, l .before .before .pre .0 .0, l .loop .inv .1, c .loop-test .taken)
 
 loop-less : tie.Need-loop-less Inv-loop μ-loop
-loop-less c = let l = c .before .before in omega (arith, seek-inside _ _ _ _ _ (l .loop .inv))
+loop-less c = omega (arith, c .before .loop-test .taken)
 
 loop-again : tie.Need-loop-again Inv-loop μ-loop
-loop-again c = let l = c .before .before in seek-next _ _ _ _ _ (l .loop .inv) (c .if1 .taken)
+loop-again c =
+    let l = c .before .before in
+    let more = c .before .loop-test .taken in
+    (omega (arith, more), omega (arith, l .loop .inv .1), rest-more _ _ _ _ _ _ (omega (arith, more)) (l .loop .inv .1) (l .loop .inv .2) (c .sooner .ensures))
 
 returns : tie.Need-returns Inv-loop μ-loop
-returns c = let l = c .before .before in seek-end _ _ _ _ _ (l .loop .inv) (c .if1 .left)
+returns c =
+    let l = c .before in
+    let s = l .before .before in
+    let e : l .loop .k ≡ s .args .i = omega (arith, l .loop .inv .0, c .loop-test .left) in
+    let r = l .loop .inv .2 ∙ ap (λ (k : ℕ). firstFrom (s .args .list .now) k (s .args .end - k) (s .args .w)) e in
+    rw r (first-rest _ _ _ _ (s .pre .1 .0) (s .pre .1 .1))
 
 pub first-of-rest-spec : {M : Type 1} → statement M
 first-of-rest-spec =
     tie.close
-    (tie.spec
-    Inv-loop
-    μ-loop
-    loop-holds
-    mul-if1
-    shared-slice-read-if1
-    add-k
-    loop-less
-    loop-again
-    returns)
+    (tie.spec Inv-loop μ-loop loop-holds sub-k sooner-requires loop-less loop-again returns)
