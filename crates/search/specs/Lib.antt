@@ -1,3 +1,4 @@
 pub mod Search
 pub mod Steps
 pub mod Runs
+pub mod Lists

@@ -17,6 +17,7 @@ ghost use Rattle.search.specs.Search.{keyOf, askedOf, guided, dear, Fair
 ghost use Rattle.search.specs.Steps.{far, InRange, RowInRange};
 ghost use Rattle.turns.specs.Firsts.{Roomy, KeptMemory};
 ghost use Rattle.search.specs.Runs.{Ran, Cheap, Reached};
+ghost use Rattle.search.specs.Lists.{hasMemory, wipedMemory};
 
 // What a search ends in: 0, or 6 where a cost below zero was met; and how many pairs were taken and not dropped.
 pub struct Found {
@@ -318,4 +319,49 @@ pub fn to_all(
         keys,
     );
     found.number
+}
+
+// Do the lists of the search have m entries each?
+pub fn has_memory(
+    m: usize,
+    dist: &[i64],
+    preds: &[u32],
+    heap: &[usize],
+    places: &[usize],
+    keys: &[i64],
+) -> bool
+    ensures { λ r. ⌜ r ≡ hasMemory m (memoryOf (now (dist .entry)) (now (preds .entry)) (now (heap .entry)) (now (places .entry)) (now (keys .entry))) ⌝ }
+{
+    if dist.len() < m {
+        return false;
+    }
+    if preds.len() < m {
+        return false;
+    }
+    if heap.len() < m {
+        return false;
+    }
+    if places.len() < m {
+        return false;
+    }
+    m <= keys.len()
+}
+
+// Zero in the first m entries of each list of the search.
+pub fn wipe_memory(
+    m: usize,
+    dist: &mut [i64],
+    preds: &mut [u32],
+    heap: &mut [usize],
+    places: &mut [usize],
+    keys: &mut [i64],
+)
+    requires { ⌜ Roomy m (memoryOf (now dist) (now preds) (now heap) (now places) (now keys)) ⌝ }
+    ensures { λ r. ⌜ memoryOf (now (dist .exit)) (now (preds .exit)) (now (heap .exit)) (now (places .exit)) (now (keys .exit)) ≡ wipedMemory m (memoryOf (now (dist .entry)) (now (preds .entry)) (now (heap .entry)) (now (places .entry)) (now (keys .entry))) ⌝ }
+{
+    clean::clear_i64(dist, m);
+    clean::clear_u32(preds, m);
+    clean::clear_usize(heap, m);
+    clean::clear_usize(places, m);
+    clean::clear_i64(keys, m);
 }

@@ -1,0 +1,25 @@
+-- `search::wipe_memory` meets its contract.
+-- Assumes nothing.
+use borrow.Author.Needs.{needs}
+use Rattle.turns.specs.Memory.{memoryOf}
+use Rattle.search.proofs.wipe_memory.Statement.{statement}
+use Rattle.search.proofs.wipe_memory.Tie as tie
+
+returns : tie.Need-returns
+returns c = λ i. memoryOf (c .before .before .before .before .before .before .before .before .before .before .before .before .before .before .before .before .clear-i64 .ensures i) (c .before .before .before .before .before .before .before .before .before .before .before .before .before .clear-u32 .ensures i) (c .before .before .before .before .before .before .before .before .before .clear-usize .ensures i) (c .before .before .before .before .before .clear-usize2 .ensures i) (c .before .clear-i642 .ensures i)
+
+pub wipe-memory-spec : {M : Type 1} → statement M
+wipe-memory-spec =
+    tie.close
+    (tie.spec
+    (λ c κs. search needs)
+    (λ c κs. search needs)
+    (λ c κs. search needs)
+    (λ c κs. search needs)
+    (λ c κs. search needs)
+    (λ c. search needs)
+    (λ c. search needs)
+    (λ c. search needs)
+    (λ c. search needs)
+    (λ c. search needs)
+    returns)
