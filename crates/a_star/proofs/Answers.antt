@@ -42,13 +42,14 @@ use Rattle.rows.specs.Kept.{KeptLists}
 use Rattle.rows.specs.Scratch.{wiped}
 use Rattle.rows.proofs.Kept.{needs-kept}
 use Rattle.rows.proofs.Maps.{ready-ints, net-room, arcs-are, net-sound, net-kept, row-small}
-use Rattle.turns.specs.Memory.{Memory, memoryOf, Shows}
+use Rattle.turns.specs.Memory.{Memory, Shows}
 use Rattle.search.specs.Search.{keyOf, targetOf, askedOf, settingOf, Fair, Fit}
-use Rattle.turns.specs.Firsts.{firsts, Roomy, KeptMemory}
+use Rattle.turns.specs.Firsts.{firsts, Roomy}
 use Rattle.turns.proofs.Firsts.{memory-roomy}
 use Rattle.search.specs.Runs.{Ran}
 use Rattle.search.proofs.Runs.{shown-pred}
-use Rattle.a_star.specs.Promise.{Question, questionOf, Answer, Scratch, Buffers, fairGuess, Fine, written, wipedMemory, wipedAll, searchOf, Says, bad, unreached, reached, Outcome}
+use Rattle.search.proofs.Lists.{wiped-memory}
+use Rattle.a_star.specs.Promise.{Question, questionOf, Answer, Scratch, Buffers, fairGuess, Fine, written, wipedAll, searchOf, Says, bad, unreached, reached, Outcome}
 use Rattle.a_star.specs.Trail.{GoesBack}
 use Rattle.a_star.specs.Parts.{Room as ScratchRoom, CanSeek, Ripe, Sought, given, Told, pathBack, Read, refused, nowhere, found}
 use Rattle.a_star.proofs.Path.{chain-back, chain-trail}
@@ -252,13 +253,6 @@ none-written p = refl
 -- ---- the scratch
 wiped-rows : {m a : ℕ} {s t : Lists ℤ} → KeptLists m a s t → wiped m a (pos 0) t ≡ wiped m a (pos 0) s
 wiped-rows {m} {a} {s} {t} k = λ i. listsOf (filled-same (m + 1) 0 (t .offsets) (s .offsets) (k .offsets .rest) i) (filled-same a 0 (t .heads) (s .heads) (k .heads .rest) i) (filled-same a (pos 0) (t .weights) (s .weights) (k .weights .rest) i)
-
--- so in the lists of the search
-wiped-memory : {m : ℕ} {M K : Memory ℤ} → KeptMemory m M K → wipedMemory m K ≡ wipedMemory m M
-wiped-memory {m} {M} {K} k =
-    λ i.
-    memoryOf (filled-same m (pos 0) (K .dist) (M .dist) (k .dist .rest) i) (filled-same m 0 (K .preds) (M .preds) (k .preds .rest) i) (filled-same m 0 (K .heap) (M .heap) (k .heap .rest) i) (filled-same m 0 (K .places) (M .places) (k .places .rest) i)
-    (filled-same m (pos 0) (K .keys) (M .keys) (k .keys .rest) i)
 
 -- ---- the whole call
 module _ {m n : ℕ} {d : Bool} {xs ys : List ℕ} {cs : List ℤ} {q : Question} {b : Buffers} (w : Ripe m n d xs ys cs q b) where

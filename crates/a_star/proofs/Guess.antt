@@ -19,7 +19,8 @@ use Rattle.net.specs.Net.{Net, ArcOf, wholeNet, has, nodesOf, insideNet, sizeOf
 use Rattle.net.proofs.Nodes.{present-in, in-present}
 use Rattle.net.proofs.Same.{arc-has}
 use Rattle.rows.specs.Scratch.{hasRoom}
-use Rattle.a_star.specs.Promise.{Question, questionOf, Answer, Buffers, hasMemory, longEnough, enough, isFair, fairAt, fairBelow, searchOf, Says, bad, unreached, reached, Promise, short, outside, noSource, noTarget, farGuess, ran}
+use Rattle.search.specs.Lists.{hasMemory}
+use Rattle.a_star.specs.Promise.{Question, questionOf, Answer, Buffers, longEnough, enough, isFair, fairAt, fairBelow, searchOf, Says, bad, unreached, reached, Promise, short, outside, noSource, noTarget, farGuess, ran}
 use Rattle.a_star.proofs.Refusals.{fair-absent, fair-present}
 
 -- what a turn stores does not look at the keys

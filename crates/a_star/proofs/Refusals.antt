@@ -7,7 +7,7 @@ use Prim.Native.Nat.{ℕ, zero, suc, _+_, _-_, _≤_, _<_, _^_}
 use native.Mathlib.Decide.{ℕ-discrete}
 use native.Mathlib.Numerals.{add-one}
 use native.Mathlib.Omega.{arith}
-use borrow.Author.Tests.{leb-true, le-leb}
+use borrow.Author.Tests.{leb-true}
 use lib.Dec.{leb}
 use lib.IntN.{ℤ, pos, negsuc}
 use lib.Signed.{ltZ, leZ}
@@ -18,10 +18,10 @@ use Rattle.net.specs.Net.{Net, wholeNet, insideNet, has, sizeOf}
 use Rattle.rows.specs.Scratch.{hasRoom}
 use Rattle.rows.specs.Kept.{Needs}
 use Rattle.rows.proofs.Kept.{has-needs}
-use Rattle.turns.specs.Memory.{Memory}
 use Rattle.search.specs.Search.{Fair}
 use Rattle.turns.specs.Firsts.{Roomy}
-use Rattle.a_star.specs.Promise.{Question, without, Buffers, hasMemory, longEnough, enough, isFair, fairAt, fairBelow, fairGuess, Fine, Promise, short, outside, noSource, noTarget, farGuess}
+use Rattle.search.proofs.Lists.{has-memory}
+use Rattle.a_star.specs.Promise.{Question, without, Buffers, longEnough, enough, isFair, fairAt, fairBelow, fairGuess, Fine, Promise, short, outside, noSource, noTarget, farGuess}
 use Rattle.a_star.specs.Parts.{questionNo, refusalNo}
 
 -- ---- the heuristic
@@ -126,27 +126,7 @@ pub record Lengths (m a : ℕ) (h : List ℤ) (b : Buffers) : Type 0 where
   pub rows : Needs m a (b .scratch .rows)
   pub memory : Roomy m (b .scratch .memory)
 
--- the last test of the lists of the search
-pub memory-last : (m : ℕ) (M : Memory ℤ) → m ≤ length (M .dist) → m ≤ length (M .preds) → m ≤ length (M .heap) → m ≤ length (M .places) → leb m (length (M .keys)) ≡ hasMemory m M
-unfolding hasMemory
-memory-last m M d p h i = rw (le-leb m (length (M .dist)) d, le-leb m (length (M .preds)) p, le-leb m (length (M .heap)) h, le-leb m (length (M .places)) i)
-
--- the lists of the search are long enough
-has-memory : (m : ℕ) (M : Memory ℤ) → hasMemory m M ≡ true → Roomy m M
-unfolding hasMemory
-has-memory m M e =
-    let e1 = and-right (leb m (length (M .dist))) _ e in
-    let e2 = and-right (leb m (length (M .preds))) _ e1 in
-    let e3 = and-right (leb m (length (M .heap))) _ e2 in
-    record {
-      dist = leb-true _ _ (and-left (leb m (length (M .dist))) _ e);
-      preds = leb-true _ _ (and-left (leb m (length (M .preds))) _ e1);
-      heap = leb-true _ _ (and-left (leb m (length (M .heap))) _ e2);
-      places = leb-true _ _ (and-left (leb m (length (M .places))) _ e3);
-      keys = leb-true _ _ (and-right (leb m (length (M .places))) _ e3);
-    }
-
--- so is each slice
+-- what the test of them says
 pub lengths : (m a : ℕ) (h : List ℤ) (b : Buffers) → longEnough m a h b ≡ true → Lengths m a h b
 unfolding longEnough
 lengths m a h b e =

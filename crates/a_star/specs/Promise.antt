@@ -19,6 +19,7 @@ use Rattle.net.specs.Net.{Net, ArcOf, wholeNet, insideNet, has, sizeOf}
 use Rattle.rows.specs.Rows.{Lists, listsOf}
 use Rattle.rows.specs.Scratch.{hasRoom, wiped}
 use Rattle.turns.specs.Memory.{Memory, memoryOf}
+use Rattle.search.specs.Lists.{hasMemory, wipedMemory}
 
 -- the question: where from, where to, and a heuristic for each index
 pub record Question : Type 0 where
@@ -63,10 +64,6 @@ abbrev pub buffersOf : List ℕ → List ℕ → List ℕ → List ℤ → List 
 buffersOf l o h w d p q i k = record { path = l; scratch = scratchOf o h w d p q i k }
 
 -- ---- the refusals
--- do the lists of the search have m entries each?
-unfoldable pub hasMemory : ℕ → Memory ℤ → Bool
-hasMemory m M = leb m (length (M .dist)) && (leb m (length (M .preds)) && (leb m (length (M .heap)) && (leb m (length (M .places)) && leb m (length (M .keys)))))
-
 -- is each slice as long as its part used? Of scratch that is 6m + 1 + 2a entries
 unfoldable pub longEnough : ℕ → ℕ → List ℤ → Buffers → Bool
 longEnough m a h b = leb m (length h) && (leb m (length (b .path)) && (hasRoom m a (b .scratch .rows) && hasMemory m (b .scratch .memory)))
@@ -106,10 +103,6 @@ unfoldable pub written : List ℕ → List ℕ → List ℕ
 written l p = l ++ drop (length l) p
 
 -- the needed part of each scratch slice is all zero, and the rest as before
-abbrev pub wipedMemory : ℕ → Memory ℤ → Memory ℤ
-wipedMemory m M = memoryOf (filled m (pos 0) (M .dist)) (filled m 0 (M .preds)) (filled m 0 (M .heap)) (filled m 0 (M .places)) (filled m (pos 0) (M .keys))
-
--- so of all scratch
 abbrev pub wipedAll : ℕ → ℕ → Scratch → Scratch
 wipedAll m a s = record { rows = wiped m a (pos 0) (s .rows); memory = wipedMemory m (s .memory) }
 

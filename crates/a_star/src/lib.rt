@@ -8,9 +8,7 @@ ghost use lib.ListN.{length, getD};
 ghost use Rattle.table.specs.Links.{present, links, Arc};
 ghost use Rattle.clean.specs.None.{noneI64};
 ghost use Rattle.net.specs.Net.{netOf, wholeNet, arcRoom};
-ghost use Rattle.turns.specs.Memory.{memoryOf};
-ghost use Rattle.turns.specs.Firsts.{Roomy};
-ghost use Rattle.a_star.specs.Promise.{Promise, Outcome, questionOf, answerOf, buffersOf, scratchOf, hasMemory, longEnough, isFair, fairAt, fairBelow, written, wipedMemory, wipedAll};
+ghost use Rattle.a_star.specs.Promise.{Promise, Outcome, questionOf, answerOf, buffersOf, scratchOf, longEnough, isFair, fairAt, fairBelow, written, wipedAll};
 ghost use Rattle.a_star.specs.Trail.{trail, GoesBack};
 ghost use Rattle.a_star.specs.Parts.{questionNo, refusalNo, Room, CanSeek, Ripe, Sought, given, Told, Read};
 
@@ -59,32 +57,6 @@ fn all_fair(m: usize, marks: &[u8], guess: &[i64]) -> bool
     true
 }
 
-// Do the lists of the search have m entries each?
-fn has_memory(
-    m: usize,
-    dist: &[i64],
-    preds: &[u32],
-    heap: &[usize],
-    places: &[usize],
-    keys: &[i64],
-) -> bool
-    ensures { λ r. ⌜ r ≡ hasMemory m (memoryOf (now (dist .entry)) (now (preds .entry)) (now (heap .entry)) (now (places .entry)) (now (keys .entry))) ⌝ }
-{
-    if dist.len() < m {
-        return false;
-    }
-    if preds.len() < m {
-        return false;
-    }
-    if heap.len() < m {
-        return false;
-    }
-    if places.len() < m {
-        return false;
-    }
-    m <= keys.len()
-}
-
 // Is each slice as long as the part used?
 fn long_enough(
     m: usize,
@@ -111,7 +83,7 @@ fn long_enough(
     if !rows::has_room(m, a, offsets, heads, weights) {
         return false;
     }
-    has_memory(m, dist, preds, heap, places, keys)
+    search::has_memory(m, dist, preds, heap, places, keys)
 }
 
 // 2 where a link names an index that the map has not, 3 where the source is one, 4 where the target is, 5 where a heuristic is too far from 0, else 0.
@@ -298,25 +270,6 @@ fn answer(
     }
 }
 
-// Zero in the first m entries of each list of the search.
-fn wipe_memory(
-    m: usize,
-    dist: &mut [i64],
-    preds: &mut [u32],
-    heap: &mut [usize],
-    places: &mut [usize],
-    keys: &mut [i64],
-)
-    requires { ⌜ Roomy m (memoryOf (now dist) (now preds) (now heap) (now places) (now keys)) ⌝ }
-    ensures { λ r. ⌜ memoryOf (now (dist .exit)) (now (preds .exit)) (now (heap .exit)) (now (places .exit)) (now (keys .exit)) ≡ wipedMemory m (memoryOf (now (dist .entry)) (now (preds .entry)) (now (heap .entry)) (now (places .entry)) (now (keys .entry))) ⌝ }
-{
-    clean::clear_i64(dist, m);
-    clean::clear_u32(preds, m);
-    clean::clear_usize(heap, m);
-    clean::clear_usize(places, m);
-    clean::clear_i64(keys, m);
-}
-
 // Zero in the part used of each scratch slice.
 fn wipe(
     m: usize,
@@ -334,7 +287,7 @@ fn wipe(
     ensures { λ r. ⌜ scratchOf (now (offsets .exit)) (now (heads .exit)) (now (weights .exit)) (now (dist .exit)) (now (preds .exit)) (now (heap .exit)) (now (places .exit)) (now (keys .exit)) ≡ wipedAll m a (scratchOf (now (offsets .entry)) (now (heads .entry)) (now (weights .entry)) (now (dist .entry)) (now (preds .entry)) (now (heap .entry)) (now (places .entry)) (now (keys .entry))) ⌝ }
 {
     rows::wipe(m, a, offsets, heads, weights);
-    wipe_memory(m, dist, preds, heap, places, keys);
+    search::wipe_memory(m, dist, preds, heap, places, keys);
 }
 
 // The search, the answer read off its lists, and the scratch wiped.

@@ -18,6 +18,7 @@ use Rattle.table.proofs.Laws.{whole, whole-of-no, all-of-no}
 use Rattle.net.specs.Net.{Net, wholeNet, insideNet, arcRoom, sizeOf, width, has}
 use Rattle.net.proofs.Nodes.{width-most}
 use Rattle.rows.specs.Scratch.{hasRoom}
+use Rattle.search.specs.Lists.{hasMemory}
 use Rattle.mapfile.specs.Load.{engineMay}
 use Rattle.mapfile.proofs.Loads.{loaded-bounded}
 use Rattle.float.specs.declared.Cutoff.{Cutoff}
@@ -173,7 +174,7 @@ module _ (file : List ℕ) (ask : readFile file .walk .stage ≡ 4) where
 
   -- the numbers that are possible
   pub possible : {source target : ℕ} {text : List ℕ} (a : Answer (readFile file) (readFile file .walk .engine) source target text) → Possible a
-  unfolding dijkstra.longEnough bellman.longEnough star.longEnough star.hasMemory floyd.enough johnson.longEnough hops.longEnough path.longEnough hasRoom
+  unfolding dijkstra.longEnough bellman.longEnough star.longEnough hasMemory floyd.enough johnson.longEnough hops.longEnough path.longEnough hasRoom
   possible (sheet.dijkstra e x) = let k = of-ints (omega arith) in dijkstra-numbers (simp (k .whole, slots k, offsets k, arcs k)) (k .inside) (x .promise)
   possible (sheet.bellmanFord e x) = let k = of-ints (omega arith) in bellman-numbers (simp (k .whole, slots k, offsets k, arcs k)) (k .inside) (x .promise)
   possible (sheet.aStar e x) = let k = of-ints (omega arith) in star-numbers (simp (k .whole, slots k, offsets k, arcs k)) (k .inside) (fair-zeros (has (intMap (readFile file))) (readFile file .walk .bound) (k .few)) (x .promise)
