@@ -11,12 +11,14 @@ use Rattle.clean.specs.Fill.{filled}
 use Rattle.clean.specs.None.{noneI64}
 use Rattle.clean.proofs.Filled.{filled-same}
 use Rattle.net.specs.Net.{Net, sizeOf, width}
+use Rattle.rows.specs.Rows.{listsOf}
 use Rattle.rows.specs.Kept.{Kept, Needs}
 use Rattle.rows.proofs.Kept.{needs-kept}
 use Rattle.matrix.specs.Matrix.{square, negative, done}
-use Rattle.johnson.specs.Promise.{Scratch, scratchOf, wipedAll, Promise}
+use Rattle.johnson.specs.Promise.{Scratch, wipedAll, Promise}
 use Rattle.johnson.specs.Parts.{refusalNo, Room, Passed, Solved}
 use Rattle.turns.proofs.Firsts.{memory-roomy}
+use Rattle.search.proofs.Lists.{wiped-memory}
 use Rattle.johnson.proofs.Refusals.{not-refused, passed}
 
 -- the scratch needs at most 8(m + 1) + 4a entries
@@ -46,9 +48,11 @@ module _ (g : Net ℤ) (matrix : List ℤ) (s : Scratch) (ok : refusalNo g matri
 
       -- the scratch at the end
       ends : s₂ ≡ wipedAll (g .bound) (sizeOf g) s
-      ends = all ∙ (λ i. scratchOf
-          (again (v .kept .rows .offsets) 0 i) (again (v .kept .rows .heads) 0 i) (again (v .kept .rows .weights) (pos 0) i) (again (v .kept .heights) (pos 0) i)
-          (again (v .kept .memory .dist) (pos 0) i) (again (v .kept .memory .preds) 0 i) (again (v .kept .memory .heap) 0 i) (again (v .kept .memory .places) 0 i) (again (v .kept .memory .keys) (pos 0) i))
+      ends = all ∙ (λ i. record {
+        rows = listsOf (again (v .kept .rows .offsets) 0 i) (again (v .kept .rows .heads) 0 i) (again (v .kept .rows .weights) (pos 0) i);
+        heights = again (v .kept .heights) (pos 0) i;
+        memory = wiped-memory (v .kept .memory) i;
+      })
 
       -- 0: the matrix holds the least totals
       pub answer-no : r ≡ false → Promise g matrix s matrix₁ s₂ 0

@@ -3,9 +3,9 @@
 use mathlib.Core.Path.{_≡_, refl, sym, ap, _∙_}
 use mathlib.Core.Bool.{Bool, true, false, cond, _&&_}
 use mathlib.Core.List.{List}
-use Prim.Native.Nat.{ℕ, _*_, _≤_}
+use Prim.Native.Nat.{ℕ, _*_}
 use native.Mathlib.Omega.{arith}
-use borrow.Author.Tests.{leb-true, le-leb}
+use borrow.Author.Tests.{leb-true}
 use lib.Dec.{leb}
 use lib.IntN.{ℤ}
 use lib.ListN.{length}
@@ -15,15 +15,10 @@ use Rattle.table.proofs.Laws.{whole}
 use Rattle.net.proofs.Bounds.{Whole, whole-ints}
 use Rattle.rows.specs.Scratch.{hasRoom}
 use Rattle.rows.proofs.Kept.{has-needs}
+use Rattle.search.proofs.Lists.{has-memory}
 use Rattle.matrix.specs.Matrix.{short, outside}
 use Rattle.johnson.specs.Promise.{Scratch, longEnough, enough, Promise}
 use Rattle.johnson.specs.Parts.{refusalNo, Passed}
-
--- the last test of the lengths decides
-pub long-last : (m a p : ℕ) (matrix : List ℤ) (s : Scratch) → p * p ≤ length matrix → hasRoom m a (s .rows) ≡ true → m ≤ length (s .heights) → m ≤ length (s .dist) → m ≤ length (s .preds) → m ≤ length (s .heap) → m ≤ length (s .places) → leb m (length (s .keys)) ≡ longEnough m a p matrix s
-unfolding longEnough
-long-last m a p matrix s x r h d q b i =
-    rw (le-leb (p * p) (length matrix) x, r, le-leb m (length (s .heights)) h, le-leb m (length (s .dist)) d, le-leb m (length (s .preds)) q, le-leb m (length (s .heap)) b, le-leb m (length (s .places)) i)
 
 module _ (g : Net ℤ) (matrix : List ℤ) (s : Scratch) where
   pub refused-limits : wholeNet g ≡ false → 1 ≡ refusalNo g matrix s
@@ -77,10 +72,6 @@ module _ (g : Net ℤ) (matrix : List ℤ) (s : Scratch) where
         let l = and-right (wholeNet g) _ e in
         let e1 = and-right (leb (width g * width g) (length matrix)) _ l in
         let e2 = and-right (hasRoom m a (s .rows)) _ e1 in
-        let e3 = and-right (leb m (length (s .heights))) _ e2 in
-        let e4 = and-right (leb m (length (s .dist))) _ e3 in
-        let e5 = and-right (leb m (length (s .preds))) _ e4 in
-        let e6 = and-right (leb m (length (s .heap))) _ e5 in
         record {
           whole = and-left (wholeNet g) _ e;
           inside = not-refused ok .1;
@@ -89,13 +80,7 @@ module _ (g : Net ℤ) (matrix : List ℤ) (s : Scratch) where
             bounded = whole (g .bound) (g .count) (g .room) (g .marks) (and-left (wholeNet g) _ e) .indices;
             rows = has-needs m a (s .rows) (and-left (hasRoom m a (s .rows)) _ e1);
             heights = leb-true _ _ (and-left (leb m (length (s .heights))) _ e2);
-            memory = record {
-              dist = leb-true _ _ (and-left (leb m (length (s .dist))) _ e3);
-              preds = leb-true _ _ (and-left (leb m (length (s .preds))) _ e4);
-              heap = leb-true _ _ (and-left (leb m (length (s .heap))) _ e5);
-              places = leb-true _ _ (and-left (leb m (length (s .places))) _ e6);
-              keys = leb-true _ _ (and-right (leb m (length (s .places))) _ e6);
-            };
+            memory = has-memory m (s .memory) (and-right (leb m (length (s .heights))) _ e2);
           };
         }
 

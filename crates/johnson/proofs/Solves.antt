@@ -21,7 +21,7 @@ use Rattle.turns.specs.Memory.{memoryOf}
 use Rattle.turns.specs.Firsts.{KeptMemory}
 use Rattle.matrix.specs.Matrix.{square, Matrix}
 use Rattle.johnson.specs.Promise.{Scratch, scratchOf}
-use Rattle.johnson.specs.Parts.{rank, CanFill, Shown, Filled, Ripe, Laid, memory, KeptAll, Prepared, Passed, Solved}
+use Rattle.johnson.specs.Parts.{rank, CanFill, Shown, Filled, Ripe, Laid, KeptAll, Prepared, Passed, Solved}
 use Rattle.johnson.proofs.Sweeps.{none-below}
 use Rattle.johnson.proofs.Shifts.{entry-back}
 use Rattle.turns.proofs.Firsts.{memory-none}
@@ -79,7 +79,7 @@ module _ {g : Net ℤ} {matrix : List ℤ} {s : Scratch} (p : Passed g matrix s)
     pub heights-long : m ≡ length (take m heights)
     heights-long = part-long m heights (omega (arith, whole-long m (s .heights) part (p .room .heights) (w .long), p .room .heights))
 
-    pub solved-yes : r ≡ true → Solved g matrix s matrix (scratchOf os hs ws heights (s .dist) (s .preds) (s .heap) (s .places) (s .keys)) true
+    pub solved-yes : r ≡ true → Solved g matrix s matrix (record { rows = listsOf os hs ws; heights = heights; memory = s .memory }) true
     solved-yes e = record {
       kept = record { rows = w .kept; heights = kept-part m (s .heights) part (p .room .heights) (w .long); memory = memory-none };
       output = kept-none;
@@ -104,7 +104,7 @@ module _ {g : Net ℤ} {matrix : List ℤ} {s : Scratch} (p : Passed g matrix s)
         room = subst (λ (x : ℕ). x * x ≤ length matrix) (sym is) (p .output);
       }
 
-      pub solved-no : {matrix′ ds : List ℤ} {ps hp pl : List ℕ} {ks : List ℤ} → Filled m k m (g .marks) (listsOf os hs ws) (take m heights) matrix matrix′ → KeptMemory m (memory s) (memoryOf ds ps hp pl ks)
+      pub solved-no : {matrix′ ds : List ℤ} {ps hp pl : List ℕ} {ks : List ℤ} → Filled m k m (g .marks) (listsOf os hs ws) (take m heights) matrix matrix′ → KeptMemory m (s .memory) (memoryOf ds ps hp pl ks)
           → Solved g matrix s matrix′ (scratchOf os hs ws heights ds ps hp pl ks) false
       solved-no {matrix′} f z =
           let f′ = subst (λ (x : ℕ). Filled m x m (g .marks) (listsOf os hs ws) (take m heights) matrix matrix′) is f in

@@ -16,7 +16,6 @@ use Rattle.net.specs.Net.{Net, ArcOf, wholeNet, insideNet, sizeOf, rising, widt
 use Rattle.rows.specs.Rows.{Lists}
 use Rattle.rows.specs.RowArc.{RowArc, Sound}
 use Rattle.rows.specs.Kept.{Kept, KeptLists, Needs}
-use Rattle.turns.specs.Memory.{Memory, memoryOf}
 use Rattle.turns.specs.Firsts.{Roomy, KeptMemory}
 use Rattle.matrix.specs.Matrix.{square, Matrix}
 use Rattle.johnson.specs.Rounds.{label, Deep}
@@ -116,16 +115,12 @@ pub record Prepared (g : Net ℤ) (s s′ : Lists ℤ) (h′ : List ℤ) (negati
 unfoldable pub refusalNo : Net ℤ → List ℤ → Scratch → ℕ
 refusalNo g matrix s = cond (enough g matrix s) (cond (insideNet g) 0 2) 1
 
--- the lists that a search writes
-abbrev pub memory : Scratch → Memory ℤ
-memory s = memoryOf (s .dist) (s .preds) (s .heap) (s .places) (s .keys)
-
 -- the scratch is as long as the part used
 pub record Room (m a : ℕ) (s : Scratch) : Type 0 where
   pub bounded : m ≤ 1024
   pub rows : Needs m a (s .rows)
   pub heights : m ≤ length (s .heights)
-  pub memory : Roomy m (memory s)
+  pub memory : Roomy m (s .memory)
 
 -- what a call that is not refused was lent
 pub record Passed (g : Net ℤ) (matrix : List ℤ) (s : Scratch) : Type 0 where
@@ -138,7 +133,7 @@ pub record Passed (g : Net ℤ) (matrix : List ℤ) (s : Scratch) : Type 0 where
 pub record KeptAll (m a : ℕ) (s s′ : Scratch) : Type 0 where
   pub rows : KeptLists m a (s .rows) (s′ .rows)
   pub heights : Kept m (s .heights) (s′ .heights)
-  pub memory : KeptMemory m (memory s) (memory s′)
+  pub memory : KeptMemory m (s .memory) (s′ .memory)
 
 -- a map solved: is some closed walk below zero? If not, the matrix holds the least totals
 pub record Solved (g : Net ℤ) (matrix : List ℤ) (s : Scratch) (matrix′ : List ℤ) (s′ : Scratch) (negative : Bool) : Type 0 where

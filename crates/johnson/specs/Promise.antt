@@ -10,26 +10,23 @@ use Rattle.clean.specs.Fill.{filled}
 use Rattle.net.specs.Net.{Net, wholeNet, sizeOf, width}
 use Rattle.rows.specs.Rows.{Lists, listsOf}
 use Rattle.rows.specs.Scratch.{hasRoom, wiped}
+use Rattle.turns.specs.Memory.{Memory, memoryOf}
+use Rattle.search.specs.Lists.{hasMemory, wipedMemory}
 use Rattle.matrix.specs.Matrix.{AllPairs}
 
 -- the lent scratch: neighbour list, potentials, and what one search writes
 pub record Scratch : Type 0 where
   pub rows : Lists ℤ
   pub heights : List ℤ
-  pub dist : List ℤ
-  pub preds : List ℕ
-  pub heap : List ℕ
-  pub places : List ℕ
-  pub keys : List ℤ
+  pub memory : Memory ℤ
 
 -- the same, of its parts
 abbrev pub scratchOf : List ℕ → List ℕ → List ℤ → List ℤ → List ℤ → List ℕ → List ℕ → List ℕ → List ℤ → Scratch
-scratchOf o h w t d p q i k = record { rows = listsOf o h w; heights = t; dist = d; preds = p; heap = q; places = i; keys = k }
+scratchOf o h w t d p q i k = record { rows = listsOf o h w; heights = t; memory = memoryOf d p q i k }
 
 -- is each slice as long as the part used: p * p entries of the matrix, and 7m + 1 + 2a of scratch in all?
 unfoldable pub longEnough : ℕ → ℕ → ℕ → List ℤ → Scratch → Bool
-longEnough m a p matrix s =
-    leb (p * p) (length matrix) && (hasRoom m a (s .rows) && (leb m (length (s .heights)) && (leb m (length (s .dist)) && (leb m (length (s .preds)) && (leb m (length (s .heap)) && (leb m (length (s .places)) && leb m (length (s .keys))))))))
+longEnough m a p matrix s = leb (p * p) (length matrix) && (hasRoom m a (s .rows) && (leb m (length (s .heights)) && hasMemory m (s .memory)))
 
 -- nothing that refusal 1 names
 abbrev pub enough : Net ℤ → List ℤ → Scratch → Bool
@@ -37,15 +34,7 @@ enough g matrix s = wholeNet g && longEnough (g .bound) (sizeOf g) (width g) mat
 
 -- zero in the part needed of each scratch slice, and the rest as before
 abbrev pub wipedAll : ℕ → ℕ → Scratch → Scratch
-wipedAll m a s = record {
-  rows = wiped m a (pos 0) (s .rows);
-  heights = filled m (pos 0) (s .heights);
-  dist = filled m (pos 0) (s .dist);
-  preds = filled m 0 (s .preds);
-  heap = filled m 0 (s .heap);
-  places = filled m 0 (s .places);
-  keys = filled m (pos 0) (s .keys);
-}
+wipedAll m a s = record { rows = wiped m a (pos 0) (s .rows); heights = filled m (pos 0) (s .heights); memory = wipedMemory m (s .memory) }
 
 -- of the map g, the matrix and the scratch that were lent, the matrix and the scratch that are left, and the number
 abbrev pub Promise : Net ℤ → List ℤ → Scratch → List ℤ → Scratch → ℕ → Type 0

@@ -449,19 +449,7 @@ fn long_enough(
     if heights.len() < m {
         return false;
     }
-    if dist.len() < m {
-        return false;
-    }
-    if preds.len() < m {
-        return false;
-    }
-    if heap.len() < m {
-        return false;
-    }
-    if places.len() < m {
-        return false;
-    }
-    m <= keys.len()
+    search::has_memory(m, dist, preds, heap, places, keys)
 }
 
 // 1 where a limit is passed or a lent slice is too short, 2 where a link names an index that the map has not, else 0.
@@ -531,11 +519,7 @@ fn wipe(
 {
     rows::wipe(m, a, offsets, heads, weights);
     clean::clear_i64(heights, m);
-    clean::clear_i64(dist, m);
-    clean::clear_u32(preds, m);
-    clean::clear_usize(heap, m);
-    clean::clear_usize(places, m);
-    clean::clear_i64(keys, m);
+    search::wipe_memory(m, dist, preds, heap, places, keys);
 }
 
 // The least totals between all pairs of nodes. 1 where a lent slice is too short or a limit is passed, 2 where a link names an index that the

@@ -6,7 +6,6 @@ use mathlib.Core.Path.{sym, _∙_}
 use native.Mathlib.Omega.{arith}
 use Rattle.matrix.proofs.Matrix.{square-small}
 use Rattle.johnson.specs.Promise.{longEnough}
-use Rattle.johnson.proofs.Refusals.{long-last}
 use Rattle.johnson.proofs.long_enough.Statement.{statement}
 use Rattle.johnson.proofs.long_enough.Tie as tie
 
@@ -28,36 +27,12 @@ returns-3 : tie.Need-returns-3
 unfolding longEnough
 returns-3 c = simp (le-leb _ _ (c .before .before .before .if1 .left), sym (c .before .before .has-room .ensures) ∙ not-false _ (c .before .if2 .left), lt-leb _ _ (c .if3 .taken))
 
+has-memory-requires : tie.Need-has-memory-requires
+has-memory-requires c κs = search needs
+
 returns-4 : tie.Need-returns-4
 unfolding longEnough
-returns-4 c = simp (le-leb _ _ (c .before .before .before .before .if1 .left), sym (c .before .before .before .has-room .ensures) ∙ not-false _ (c .before .before .if2 .left), le-leb _ _ (c .before .if3 .left), lt-leb _ _ (c .if4 .taken))
-
-returns-5 : tie.Need-returns-5
-unfolding longEnough
-returns-5 c = simp (le-leb _ _ (c .before .before .before .before .before .if1 .left), sym (c .before .before .before .before .has-room .ensures) ∙ not-false _ (c .before .before .before .if2 .left), le-leb _ _ (c .before .before .if3 .left), le-leb _ _ (c .before .if4 .left), lt-leb _ _ (c .if5 .taken))
-
-returns-6 : tie.Need-returns-6
-unfolding longEnough
-returns-6 c = simp (le-leb _ _ (c .before .before .before .before .before .before .if1 .left), sym (c .before .before .before .before .before .has-room .ensures) ∙ not-false _ (c .before .before .before .before .if2 .left), le-leb _ _ (c .before .before .before .if3 .left), le-leb _ _ (c .before .before .if4 .left), le-leb _ _ (c .before .if5 .left), lt-leb _ _ (c .if6 .taken))
-
-returns-7 : tie.Need-returns-7
-unfolding longEnough
-returns-7 c = simp (le-leb _ _ (c .before .before .before .before .before .before .before .if1 .left), sym (c .before .before .before .before .before .before .has-room .ensures) ∙ not-false _ (c .before .before .before .before .before .if2 .left), le-leb _ _ (c .before .before .before .before .if3 .left), le-leb _ _ (c .before .before .before .if4 .left), le-leb _ _ (c .before .before .if5 .left), le-leb _ _ (c .before .if6 .left), lt-leb _ _ (c .if7 .taken))
-
-returns-8 : tie.Need-returns-8
-returns-8 c = long-last _ _ _ _ _ (c .before .before .before .before .before .before .before .if1 .left) (sym (c .before .before .before .before .before .before .has-room .ensures) ∙ not-false _ (c .before .before .before .before .before .if2 .left)) (c .before .before .before .before .if3 .left) (c .before .before .before .if4 .left) (c .before .before .if5 .left) (c .before .if6 .left) (c .if7 .left)
+returns-4 c = c .has-memory .ensures ∙ simp (le-leb _ _ (c .before .before .before .before .if1 .left), sym (c .before .before .before .has-room .ensures) ∙ not-false _ (c .before .before .if2 .left), le-leb _ _ (c .before .if3 .left))
 
 pub long-enough-spec : {M : Type 1} → statement M
-long-enough-spec =
-    tie.close
-    (tie.spec
-    mul-if1
-    returns
-    has-room-requires
-    returns-2
-    returns-3
-    returns-4
-    returns-5
-    returns-6
-    returns-7
-    returns-8)
+long-enough-spec = tie.close (tie.spec mul-if1 returns has-room-requires returns-2 returns-3 has-memory-requires returns-4)
