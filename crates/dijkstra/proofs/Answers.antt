@@ -17,8 +17,8 @@ use Rattle.rows.specs.Kept.{Kept, KeptLists}
 use Rattle.rows.proofs.Kept.{kept-none, kept-filled, needs-kept, lists-wiped}
 use Rattle.turns.specs.Firsts.{Roomy}
 use Rattle.search.specs.Runs.{Reached, done as all, bad as refuse}
-use Rattle.dijkstra.specs.Promise.{Scratch, Buffers, wipedAll, clear, Promise, bad, done}
-use Rattle.dijkstra.specs.Parts.{Room, Solved, memory}
+use Rattle.dijkstra.specs.Promise.{Scratch, Buffers, memory, wipedAll, clear, Promise, bad, done}
+use Rattle.dijkstra.specs.Parts.{Room, Solved}
 use Rattle.dijkstra.proofs.Refusals.{Passed}
 
 -- scratch of which only the part used changed

@@ -2,48 +2,17 @@
 -- Assumes nothing.
 use mathlib.Core.Path.{_≡_, refl, sym, ap, _∙_}
 use mathlib.Core.Bool.{Bool, true, false}
-use Prim.Native.Nat.{ℕ, _≤_, _<_}
+use Prim.Native.Nat.{ℕ, _≤_}
 use native.Mathlib.Omega.{arith}
-use borrow.Author.Tests.{leb-true, le-leb, lt-leb}
-use lib.Dec.{leb}
 use lib.IntN.{ℤ}
 use lib.ListN.{length}
 use Rattle.whole.proofs.Cases.{and-left, and-right}
 use Rattle.net.specs.Net.{Net, wholeNet, insideNet, has, sizeOf}
 use Rattle.rows.specs.Scratch.{hasRoom}
 use Rattle.rows.proofs.Kept.{has-needs}
-use Rattle.dijkstra.specs.Promise.{Buffers, longEnough, enough, Promise, short, outside, unknown}
+use Rattle.search.proofs.Lists.{has-memory}
+use Rattle.dijkstra.specs.Promise.{Buffers, memory, longEnough, enough, Promise, short, outside, unknown}
 use Rattle.dijkstra.specs.Parts.{refusalNo, Room}
-
--- ---- the tests of the lengths, one after another
-module _ (m a : ℕ) (b : Buffers) where
-  pub long-rows : hasRoom m a (b .scratch .rows) ≡ false → false ≡ longEnough m a b
-  unfolding longEnough
-  long-rows e = rw e
-
-  module _ (e : hasRoom m a (b .scratch .rows) ≡ true) where
-    pub long-dist : length (b .dist) < m → false ≡ longEnough m a b
-    unfolding longEnough
-    long-dist h = rw (e, lt-leb m (length (b .dist)) h)
-
-    module _ (f : m ≤ length (b .dist)) where
-      pub long-preds : length (b .scratch .preds) < m → false ≡ longEnough m a b
-      unfolding longEnough
-      long-preds h = rw (e, le-leb m (length (b .dist)) f, lt-leb m (length (b .scratch .preds)) h)
-
-      module _ (g : m ≤ length (b .scratch .preds)) where
-        pub long-heap : length (b .scratch .heap) < m → false ≡ longEnough m a b
-        unfolding longEnough
-        long-heap h = rw (e, le-leb m (length (b .dist)) f, le-leb m (length (b .scratch .preds)) g, lt-leb m (length (b .scratch .heap)) h)
-
-        module _ (i : m ≤ length (b .scratch .heap)) where
-          pub long-places : length (b .scratch .places) < m → false ≡ longEnough m a b
-          unfolding longEnough
-          long-places h = rw (e, le-leb m (length (b .dist)) f, le-leb m (length (b .scratch .preds)) g, le-leb m (length (b .scratch .heap)) i, lt-leb m (length (b .scratch .places)) h)
-
-          pub long-keys : m ≤ length (b .scratch .places) → leb m (length (b .scratch .keys)) ≡ longEnough m a b
-          unfolding longEnough
-          long-keys h = rw (e, le-leb m (length (b .dist)) f, le-leb m (length (b .scratch .preds)) g, le-leb m (length (b .scratch .heap)) i, le-leb m (length (b .scratch .places)) h)
 
 -- ---- the number of the refusal
 module _ (g : Net ℤ) (s : ℕ) (b : Buffers) where
@@ -97,24 +66,14 @@ pub enough-passed : (g : Net ℤ) (s : ℕ) (b : Buffers) → enough g b ≡ tru
 unfolding longEnough
 enough-passed g s b e i h =
     let l = and-right (wholeNet g) _ e in
-    let e1 = and-right (hasRoom (g .bound) (sizeOf g) (b .scratch .rows)) _ l in
-    let e2 = and-right (leb (g .bound) (length (b .dist))) _ e1 in
-    let e3 = and-right (leb (g .bound) (length (b .scratch .preds))) _ e2 in
-    let e4 = and-right (leb (g .bound) (length (b .scratch .heap))) _ e3 in
+    let w = has-memory (g .bound) (memory b) (and-right (hasRoom (g .bound) (sizeOf g) (b .scratch .rows)) _ l) in
     record {
       long = e;
       inside = i;
       source = h;
       whole = and-left (wholeNet g) _ e;
-      dist = leb-true _ _ (and-left (leb (g .bound) (length (b .dist))) _ e1);
-      room =
-          record {
-            rows = has-needs _ _ _ (and-left (hasRoom (g .bound) (sizeOf g) (b .scratch .rows)) _ l);
-            preds = leb-true _ _ (and-left (leb (g .bound) (length (b .scratch .preds))) _ e2);
-            heap = leb-true _ _ (and-left (leb (g .bound) (length (b .scratch .heap))) _ e3);
-            places = leb-true _ _ (and-left (leb (g .bound) (length (b .scratch .places))) _ e4);
-            keys = leb-true _ _ (and-right (leb (g .bound) (length (b .scratch .places))) _ e4);
-          };
+      dist = w .dist;
+      room = record { rows = has-needs _ _ _ (and-left (hasRoom (g .bound) (sizeOf g) (b .scratch .rows)) _ l); preds = w .preds; heap = w .heap; places = w .places; keys = w .keys };
     }
 
 -- from the number 0

@@ -16,8 +16,8 @@ use Rattle.turns.specs.Memory.{Memory}
 use Rattle.turns.specs.Firsts.{KeptMemory}
 use Rattle.search.specs.Runs.{Cheap, Reached}
 use Rattle.search.proofs.Runs.{reached-over}
-use Rattle.dijkstra.specs.Promise.{Buffers}
-use Rattle.dijkstra.specs.Parts.{Ripe, Solved, memory}
+use Rattle.dijkstra.specs.Promise.{Buffers, memory}
+use Rattle.dijkstra.specs.Parts.{Ripe, Solved}
 
 module _ {m n : ℕ} {d : Bool} {xs ys : List ℕ} {cs : List ℤ} {s : ℕ} {b : Buffers} (ripe : Ripe m n d xs ys cs s b) where
   -- the map with the marks that it was not refused by

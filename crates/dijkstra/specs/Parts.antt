@@ -8,10 +8,9 @@ use lib.IntN.{ℤ}
 use lib.ListN.{length}
 use Rattle.net.specs.Net.{Net, netOf, wholeNet, insideNet, has, arcRoom}
 use Rattle.rows.specs.Kept.{KeptLists, Needs}
-use Rattle.turns.specs.Memory.{Memory, memoryOf}
 use Rattle.turns.specs.Firsts.{Roomy, KeptMemory}
 use Rattle.search.specs.Runs.{Reached}
-use Rattle.dijkstra.specs.Promise.{Scratch, Buffers, enough}
+use Rattle.dijkstra.specs.Promise.{Scratch, Buffers, memory, enough}
 
 -- refusal 1, then 2, then 3, else 0
 unfoldable pub refusalNo : Net ℤ → ℕ → Buffers → ℕ
@@ -24,10 +23,6 @@ pub record Room (m a : ℕ) (s : Scratch) : Type 0 where
   pub heap : m ≤ length (s .heap)
   pub places : m ≤ length (s .places)
   pub keys : m ≤ length (s .keys)
-
--- the lists that the search writes
-abbrev pub memory : Buffers → Memory ℤ
-memory b = memoryOf (b .dist) (b .scratch .preds) (b .scratch .heap) (b .scratch .places) (b .scratch .keys)
 
 -- what a table must be before it is solved: by some marks it is not refused
 pub record Ripe (m n : ℕ) (d : Bool) (xs ys : List ℕ) (cs : List ℤ) (s : ℕ) (b : Buffers) : Type 0 where

@@ -4,9 +4,7 @@ use mathlib.Core.Path.{_≡_}
 use mathlib.Core.Bool.{Bool, true, false, _&&_}
 use mathlib.Core.List.{List}
 use Prim.Native.Nat.{ℕ}
-use lib.Dec.{leb}
 use lib.IntN.{ℤ, pos}
-use lib.ListN.{length}
 use Rattle.clean.specs.Fill.{filled, Settled}
 use Rattle.clean.specs.None.{noneI64}
 use Rattle.walks.specs.Walk.{Entry}
@@ -14,6 +12,8 @@ use Rattle.pending.specs.Reach.{BadInReach}
 use Rattle.net.specs.Net.{Net, ArcOf, wholeNet, insideNet, has, sizeOf}
 use Rattle.rows.specs.Rows.{Lists, listsOf}
 use Rattle.rows.specs.Scratch.{hasRoom, wiped}
+use Rattle.turns.specs.Memory.{Memory, memoryOf}
+use Rattle.search.specs.Lists.{hasMemory}
 
 -- the lent scratch: the neighbour list, the predecessors, the bag
 pub record Scratch : Type 0 where
@@ -36,10 +36,13 @@ pub record Buffers : Type 0 where
 abbrev pub buffersOf : List ℤ → List ℕ → List ℕ → List ℤ → List ℕ → List ℕ → List ℕ → List ℤ → Buffers
 buffersOf d o h w p q i k = record { dist = d; scratch = scratchOf o h w p q i k }
 
+-- the lists that the search writes
+abbrev pub memory : Buffers → Memory ℤ
+memory b = memoryOf (b .dist) (b .scratch .preds) (b .scratch .heap) (b .scratch .places) (b .scratch .keys)
+
 -- is each buffer as long as its part used? Of scratch that is 5m + 1 + 2a entries
 unfoldable pub longEnough : ℕ → ℕ → Buffers → Bool
-longEnough m a b =
-    hasRoom m a (b .scratch .rows) && (leb m (length (b .dist)) && (leb m (length (b .scratch .preds)) && (leb m (length (b .scratch .heap)) && (leb m (length (b .scratch .places)) && leb m (length (b .scratch .keys))))))
+longEnough m a b = hasRoom m a (b .scratch .rows) && hasMemory m (memory b)
 
 -- nothing that refusal 1 names
 abbrev pub enough : Net ℤ → Buffers → Bool

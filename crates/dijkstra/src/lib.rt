@@ -28,19 +28,7 @@ fn long_enough(
     if !rows::has_room(m, a, offsets, heads, weights) {
         return false;
     }
-    if dist.len() < m {
-        return false;
-    }
-    if preds.len() < m {
-        return false;
-    }
-    if heap.len() < m {
-        return false;
-    }
-    if places.len() < m {
-        return false;
-    }
-    m <= keys.len()
+    search::has_memory(m, dist, preds, heap, places, keys)
 }
 
 // 1 where a limit is passed or a lent slice is too short, 2 where a link names an index that the map has not, 3 where the source is one, else 0.

@@ -5,34 +5,15 @@ use Rattle.dijkstra.proofs.long_enough.Tie as tie
 use mathlib.Core.Path.{sym, _∙_}
 use borrow.Author.Needs.{needs}
 use borrow.Author.Tests.{not-true, not-false}
-use Rattle.dijkstra.proofs.Refusals.{long-rows, long-dist, long-preds, long-heap, long-places, long-keys}
+use Rattle.dijkstra.specs.Promise.{longEnough}
 
 returns : tie.Need-returns
-returns c = long-rows _ _ _ (sym (c .before .has-room .ensures) ∙ not-true _ (c .if1 .taken))
+unfolding longEnough
+returns c = simp (sym (c .before .has-room .ensures) ∙ not-true _ (c .if1 .taken))
 
 returns-2 : tie.Need-returns-2
-returns-2 c = long-dist _ _ _ (sym (c .before .before .has-room .ensures) ∙ not-false _ (c .before .if1 .left)) (c .if2 .taken)
-
-returns-3 : tie.Need-returns-3
-returns-3 c = long-preds _ _ _ (sym (c .before .before .before .has-room .ensures) ∙ not-false _ (c .before .before .if1 .left)) (c .before .if2 .left) (c .if3 .taken)
-
-returns-4 : tie.Need-returns-4
-returns-4 c = long-heap _ _ _ (sym (c .before .before .before .before .has-room .ensures) ∙ not-false _ (c .before .before .before .if1 .left)) (c .before .before .if2 .left) (c .before .if3 .left) (c .if4 .taken)
-
-returns-5 : tie.Need-returns-5
-returns-5 c = long-places _ _ _ (sym (c .before .before .before .before .before .has-room .ensures) ∙ not-false _ (c .before .before .before .before .if1 .left)) (c .before .before .before .if2 .left) (c .before .before .if3 .left) (c .before .if4 .left) (c .if5 .taken)
-
-returns-6 : tie.Need-returns-6
-returns-6 c = long-keys _ _ _ (sym (c .before .before .before .before .before .has-room .ensures) ∙ not-false _ (c .before .before .before .before .if1 .left)) (c .before .before .before .if2 .left) (c .before .before .if3 .left) (c .before .if4 .left) (c .if5 .left)
+unfolding longEnough
+returns-2 c = c .has-memory .ensures ∙ simp (sym (c .before .before .has-room .ensures) ∙ not-false _ (c .before .if1 .left))
 
 pub long-enough-spec : {M : Type 1} → statement M
-long-enough-spec =
-    tie.close
-    (tie.spec
-    (λ c κs. search needs)
-    returns
-    returns-2
-    returns-3
-    returns-4
-    returns-5
-    returns-6)
+long-enough-spec = tie.close (tie.spec (λ c κs. search needs) returns (λ c κs. search needs) returns-2)
