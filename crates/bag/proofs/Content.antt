@@ -51,7 +51,7 @@ module _ {K : Type 0} where
   content-in′ (x ∷ ps) (y ∷ ks) zero p k = refl
   content-in′ (x ∷ ps) (y ∷ ks) (suc v) p k = ap (λ (l : List (Option K)). entry x y ∷ l) (content-in′ ps ks v p k)
 
-  -- the same, with the place as the heap counts it
+  -- the same, with a word that is written as one more than another
   pub content-in : (ps : List ℕ) (ks : List K) (v p : ℕ) (k : K) → contentOf (set ps v (p + 1)) (set ks v k) ≡ set (contentOf ps ks) v (some k)
   content-in ps ks v p k = ap (λ (x : ℕ). contentOf (set ps v x) (set ks v k)) (add-one p) ∙ content-in′ ps ks v p k
 
@@ -132,7 +132,7 @@ held-in′ (suc x ∷ ps) zero p l e = absurd (omega (arith, e))
 held-in′ (zero ∷ ps) (suc v) p l e = held-in′ ps v p (le-of-suc-le-suc l) e
 held-in′ (suc x ∷ ps) (suc v) p l e = omega (arith, held-in′ ps v p (le-of-suc-le-suc l) e)
 
--- the same, with the place as the heap counts it
+-- the same, with a word that is written as one more than another
 pub held-in : (ps : List ℕ) (v p : ℕ) → v < length ps → getD ps v 0 ≡ 0 → held (set ps v (p + 1)) ≡ held ps + 1
 held-in ps v p l e = ap (λ (x : ℕ). held (set ps v x)) (add-one p) ∙ held-in′ ps v p l e
 

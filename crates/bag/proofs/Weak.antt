@@ -1,4 +1,4 @@
--- The order of pairs over an order of keys in which unequal keys may tie, which is all that a heap needs. Assumes nothing.
+-- The order of pairs over an order of keys in which unequal keys may tie, which is all that taking the least pair needs. Assumes nothing.
 use mathlib.Core.Path.{_≡_, refl, sym, ap, _∙_}
 use mathlib.Core.Bool.{Bool, true, false, true≢false}
 use Prim.Native.Nat.{ℕ, _≤_}
