@@ -2,7 +2,6 @@
 ghost use mathlib.Core.Path.{_≡_};
 ghost use Prim.Native.Nat.{_≤_};
 ghost use lib.IntN.{pos};
-ghost use lib.Ieee.{binary64, ofBits};
 ghost use lib.ListN.{length};
 ghost use Rattle.clean.specs.Fill.{filled};
 ghost use Rattle.clean.specs.None.{noneI64, noneU32, noneF64};
@@ -13,8 +12,8 @@ pub const NONE_I64: i64 = -9223372036854775808;
 // None as a predecessor, an entry of a path, a node, a count of hops.
 pub const NONE_U32: u32 = 4294967295;
 
-// None as an f64 distance.
-pub const NONE_F64: f64 = -1.0;
+// None as an f64 distance: the pattern of -1.0. Distances are lent as patterns, by which a NaN that is not written keeps its payload.
+pub const NONE_F64: u64 = 0xbff0_0000_0000_0000;
 
 // Zero at the first n places of a slice of usize.
 pub fn clear_usize(s: &mut [usize], n: usize)
@@ -76,18 +75,6 @@ pub fn clear_i64(s: &mut [i64], n: usize)
     }
 }
 
-// Positive zero at the first n places of a slice of f64.
-pub fn clear_f64(s: &mut [f64], n: usize)
-    requires { ⌜ n ≤ length (now s) ⌝ }
-    ensures { λ _. ⌜ now (s .exit) ≡ filled n (ofBits binary64 0) (now (s .entry)) ⌝ }
-{
-    let mut i: usize = 0;
-    while i < n {
-        s[i] = 0.0;
-        i += 1;
-    }
-}
-
 // None at the first n places of a slice of i64.
 pub fn blank_i64(s: &mut [i64], n: usize)
     requires { ⌜ n ≤ length (now s) ⌝ }
@@ -112,8 +99,8 @@ pub fn blank_u32(s: &mut [u32], n: usize)
     }
 }
 
-// None at the first n places of a slice of f64.
-pub fn blank_f64(s: &mut [f64], n: usize)
+// None at the first n places of a slice of f64 patterns.
+pub fn blank_f64(s: &mut [u64], n: usize)
     requires { ⌜ n ≤ length (now s) ⌝ }
     ensures { λ _. ⌜ now (s .exit) ≡ filled n noneF64 (now (s .entry)) ⌝ }
 {
