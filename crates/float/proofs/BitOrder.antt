@@ -1,6 +1,6 @@
 -- The order of distances is that of their bits as numbers.
 -- Assumes nothing.
-use mathlib.Core.Path.{_≡_, refl, sym, ap, _∙_, subst}
+use mathlib.Core.Path.{_≡_, refl, sym, ap, ap₂, _∙_, subst}
 use mathlib.Core.Logic.{_⊎_, inl, inr}
 use Prim.Native.Nat.{ℕ, suc, _+_, _-_, _*_, _/_, _^_, _≤_, _<_, zero-le}
 use native.Mathlib.Nat.{le-trans, le-of-eq, le-of-lt, lt-irrefl, lt-of-lt-of-le, lt-of-le-of-lt, eq-or-lt-of-le, zero-add, one-mul, mul-assoc, mul-le-mul-right, mul-div-cancel, lt-of-mul-lt-mul-right, le-div-iff-mul-le, pow-succ', suc-mul}
@@ -8,11 +8,13 @@ use native.Mathlib.Omega.{arith}
 use mathlib.Core.Bool.{Bool, true, false, not}
 use lib.Dec.{T, ltb, ltb→lt, lt→ltb, nltb→le, lit<}
 use lib.Pow.{pow-add, pow-pos, shl-lt}
-use lib.Ieee.{Float, Format, binary32, binary64, prec, emax, low, up, down, size, hid, ones, fits, toBits, lt}
+use lib.Ieee.{Float, Format, binary32, binary64, prec, emax, low, up, down, size, hid, ones, fits, toBits, ofBits, lt}
 use lib.Ieee.Digits.{back, size-lt, size-le, size-reaches}
 use lib.Ieee.Fits.{kept-lt, two, two-le-pos, down-pos}
-use Rattle.float.specs.Dist.{Dist}
-use Rattle.float.proofs.Dist.{rank, overflow, lt-rank, rank-inj, same-test, place, fits-down, fits-short, Shape, shape, num, top as high}
+use borrow.Author.Tests.{ltb-true, ltb-false, le-ltb}
+use Rattle.float.specs.Dist.{Dist64, zero64, lt64}
+use Rattle.float.proofs.Cost.{zero-dist, dist-value, dist-back}
+use Rattle.float.proofs.Dist.{Dist, rank, overflow, lt-rank, rank-inj, same-test, place, fits-down, fits-short, Shape, shape, num, top as high}
 
 -- the bits of a number of units: its prec leading digits, and how many were dropped
 abbrev enc : ℕ → ℕ → ℕ → ℕ
@@ -118,3 +120,21 @@ lt-bits f x y p q = lt-rank f x y p q ∙ same-test (ltb (rank f x) (rank f y)) 
           | inl e ↦ lt-irrefl (toBits f x) (subst (λ (z : Float). toBits f x < toBits f z) (rank-inj f y x q p e) h)
           | inr l ↦ lt-irrefl (toBits f x) (lt-of-lt-of-le h (le-of-lt (bits-mono f y x q p l)))
         ]
+
+-- so of two patterns that can be distances the order is that of numbers
+pub lt64-is : (a b : ℕ) → Dist64 a → Dist64 b → lt64 a b ≡ ltb a b
+unfolding lt64
+lt64-is a b p q = lt-bits binary64 (ofBits binary64 a) (ofBits binary64 b) (dist-value a p) (dist-value b q) ∙ ap₂ ltb (dist-back a p) (dist-back b q)
+
+-- one way at most, not below carries on, neither way is the same distance, and none is below 0.0
+pub lt64-asym : (a b : ℕ) → Dist64 a → Dist64 b → lt64 a b ≡ true → lt64 b a ≡ false
+lt64-asym a b p q e = lt64-is b a q p ∙ le-ltb b a (omega (arith, ltb-true a b (sym (lt64-is a b p q) ∙ e)))
+
+pub lt64-neg : (a b c : ℕ) → Dist64 a → Dist64 b → Dist64 c → lt64 a b ≡ false → lt64 b c ≡ false → lt64 a c ≡ false
+lt64-neg a b c p q r e g = lt64-is a c p r ∙ le-ltb a c (omega (arith, ltb-false a b (sym (lt64-is a b p q) ∙ e), ltb-false b c (sym (lt64-is b c q r) ∙ g)))
+
+pub lt64-same : (a b : ℕ) → Dist64 a → Dist64 b → lt64 a b ≡ false → lt64 b a ≡ false → a ≡ b
+lt64-same a b p q e g = omega (arith, ltb-false a b (sym (lt64-is a b p q) ∙ e), ltb-false b a (sym (lt64-is b a q p) ∙ g))
+
+pub zero-least : (d : ℕ) → Dist64 d → lt64 d zero64 ≡ false
+zero-least d p = lt64-is d 0 p zero-dist ∙ le-ltb d 0 zero-le

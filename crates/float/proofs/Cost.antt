@@ -9,11 +9,13 @@ use native.Mathlib.Nat.{lt-irrefl, lt-of-lt-of-le, lt-of-le-of-lt, mod-eq-of-lt,
 use mathlib.Core.Bool.{Bool, true, false, not, _||_, cond, true≢false}
 use lib.Dec.{T, leb, ltb, eqb, leb→le, nleb→lt, lt→ltb, lit<, not-T}
 use lib.Ieee.{Float, nan, inf, fin, Format, binary32, binary64, lt, add, prec, low, hid, ones, top, odd, ofFields, ofBits, toBits, nanBits, isNan, fits, up, down, size}
-use lib.Ieee.Bits.{is-true, is-false, nanBits-is, nanBits-above, ofBits-fits, ofBits-toBits, toBits-lt}
+use lib.Ieee.Bits.{is-true, is-false, nanBits-is, nanBits-above, ofBits-fits, ofBits-toBits, toBits-ofBits, toBits-lt}
+use lib.Ieee.Fits.{add-fits}
+use borrow.Author.Tests.{ltb-false}
 use Rattle.whole.proofs.Cases.{or-no, not-t}
 use Rattle.float.specs.Cost.{badCost}
-use Rattle.float.specs.Dist.{clear, Dist, zero64, plus64}
-use Rattle.float.proofs.Dist.{odd-clear, add-dist, add-grows, le-not-lt, rank, lt-rank, ltb-no}
+use Rattle.float.specs.Dist.{Dist64, zero64, lt64, plus64}
+use Rattle.float.proofs.Dist.{clear, Dist, odd-clear, add-dist, add-grows, le-not-lt, no-nan}
 
 infinity-low : (f : Format) → ones f * hid f < top f
 infinity-low binary32 = lit< tt
@@ -97,27 +99,38 @@ dist-good f x p =
     ap (λ (b : Bool). b || isNan (ofBits f (toBits f x))) (is-false (leb (top f) (toBits f x)) (not-T (leb (top f) (toBits f x)) (λ t. lt-irrefl (top f) (lt-of-le-of-lt (leb→le (top f) (toBits f x) t) (dist-bits f x p)))))
     ∙ ap isNan (ofBits-toBits f x (p .is-held)) ∙ clear-no-nan x (p .is-clear)
 
+-- ---- patterns that can be a distance: each is the pattern of its value
+pub dist-low : (d : ℕ) → Dist64 d → d < top binary64
+dist-low d p = lt-of-le-of-lt (ltb-false (ones binary64 * hid binary64) d (bad-is binary64 d ∙ p)) (infinity-low binary64)
+
+pub dist-value : (d : ℕ) → Dist64 d → Dist binary64 (ofBits binary64 d)
+dist-value d p = good-dist binary64 d p
+
+pub dist-back : (d : ℕ) → Dist64 d → toBits binary64 (ofBits binary64 d) ≡ d
+dist-back d p = toBits-ofBits binary64 d (omega (arith, dist-low d p)) (no-nan (ofBits binary64 d) (dist-value d p .is-clear))
+
 -- ---- the distance 0.0, and the sum of a distance and a good cost
-pub zero-dist : Dist binary64 zero64
-unfolding zero64
-zero-dist = record { is-clear = unfold ofBits in tt; is-held = ofBits-fits binary64 0 }
+pub zero-dist : Dist64 zero64
+unfolding badCost ofBits isNan
+zero-dist = refl
 
-zero-rank : rank binary64 zero64 ≡ 0
-unfolding zero64 rank ofBits
-zero-rank = refl
-
--- no distance is below 0.0
-pub zero-least : (x : Float) → Dist binary64 x → lt x zero64 ≡ false
-zero-least x p = lt-rank binary64 x zero64 p zero-dist ∙ ap (ltb (rank binary64 x)) zero-rank ∙ sym (ltb-no (rank binary64 x) 0 zero-le)
-
-pub plus-dist : (d : Float) (b : ℕ) → Dist binary64 d → badCost binary64 b ≡ false → Dist binary64 (plus64 d b)
+-- the sum of the values
+pub plus-value : (d b : ℕ) → ofBits binary64 (plus64 d b) ≡ add binary64 (ofBits binary64 d) (ofBits binary64 b)
 unfolding plus64
-plus-dist d b p g = add-dist binary64 d (ofBits binary64 b) (p .is-clear) (good-dist binary64 b g .is-clear)
+plus-value d b = ofBits-toBits binary64 (add binary64 (ofBits binary64 d) (ofBits binary64 b)) (add-fits binary64 (ofBits binary64 d) (ofBits binary64 b))
 
--- a good cost lowers no distance
-pub plus-grows : (d : Float) (b : ℕ) → Dist binary64 d → badCost binary64 b ≡ false → lt (plus64 d b) d ≡ false
-unfolding plus64
-plus-grows d b p g =
-    let w = good-dist binary64 b g in
-    let a = add-dist binary64 d (ofBits binary64 b) (p .is-clear) (w .is-clear) in
-    not-t _ (sym (le-not-lt d (add binary64 d (ofBits binary64 b)) (p .is-clear) (a .is-clear)) ∙ is-true _ (add-grows binary64 d (ofBits binary64 b) p (w .is-clear)))
+module _ (d b : ℕ) (p : Dist64 d) (g : Dist64 b) where
+  -- it is one that can be a distance
+  pub sum-dist : Dist binary64 (add binary64 (ofBits binary64 d) (ofBits binary64 b))
+  sum-dist = add-dist binary64 (ofBits binary64 d) (ofBits binary64 b) (dist-value d p .is-clear) (dist-value b g .is-clear)
+
+  pub plus-dist : Dist64 (plus64 d b)
+  unfolding plus64
+  plus-dist = dist-good binary64 (add binary64 (ofBits binary64 d) (ofBits binary64 b)) sum-dist
+
+  -- a good cost lowers no distance
+  pub plus-grows : lt64 (plus64 d b) d ≡ false
+  unfolding lt64
+  plus-grows =
+      ap (λ (z : Float). lt z (ofBits binary64 d)) (plus-value d b)
+      ∙ not-t _ (sym (le-not-lt (ofBits binary64 d) (add binary64 (ofBits binary64 d) (ofBits binary64 b)) (dist-value d p .is-clear) (sum-dist .is-clear)) ∙ is-true _ (add-grows binary64 (ofBits binary64 d) (ofBits binary64 b) (dist-value d p) (dist-value b g .is-clear)))

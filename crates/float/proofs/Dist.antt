@@ -18,7 +18,17 @@ use lib.Ieee.Bits.{is-true, is-false, ofBits-toBits}
 use lib.Ieee.Order.{round-mono, drop, kept}
 use lib.Ieee.Nearest.{div-same}
 use lib.Ieee.Exact.{HasValue, round-exact}
-use Rattle.float.specs.Dist.{clear, Dist}
+
+-- not a NaN, and the sign is clear
+abbrev pub clear : Float → Bool
+clear nan = false
+clear (inf s) = not s
+clear (fin s m e) = not s
+
+-- a value of the format that can be a distance: zero, every value above it, +infinity
+pub record Dist (f : Format) (x : Float) : Type 0 where
+  pub is-clear : T (clear x)
+  pub is-held : T (fits f x)
 
 -- ---- the rank
 -- the first number of units past the finite values

@@ -11,8 +11,7 @@ use lib.Pow.{pow-pos}
 use lib.Ieee.{Float, nan, inf, fin, Format, low, emax, up, down, lt, fits, isNan}
 use lib.Ieee.Fits.{down-pos}
 use lib.Ieee.Bits.{is-true}
-use Rattle.float.specs.Dist.{Dist}
-use Rattle.float.proofs.Dist.{rank, overflow, lt-rank, rank-val, rank-under, scaled-test, ltb-yes, ltb-no, no-nan as no-nan-of}
+use Rattle.float.proofs.Dist.{Dist, rank, overflow, lt-rank, rank-val, rank-under, scaled-test, ltb-yes, ltb-no, no-nan as no-nan-of}
 
 -- an f64 value that is no NaN
 pub record Real (f : Format) (x : Float) : Type 0 where

@@ -1,19 +1,18 @@
 -- Sums and comparisons of floats that are whole numbers up to 2 ^ prec are those of the numbers: nothing is rounded.
 -- Assumes nothing.
-use mathlib.Core.Path.{_≡_, refl, sym, ap, _∙_}
+use mathlib.Core.Path.{_≡_, refl, sym, ap, ap₂, _∙_}
 use Prim.Native.Nat.{ℕ, _+_, _*_, _^_, _≤_, _<_}
 use native.Mathlib.Nat.{le-trans, mul-one, mul-comm, mul-assoc, mul-left-comm, mul-mul-mul-comm, add-mul, mul-pos, le-add-right, le-add-left, zero-lt-suc}
 use mathlib.Core.Bool.{true, false, true≢false}
 use lib.IntN.{pos}
 use lib.Dec.{ltb}
-use lib.Ieee.{Float, nan, inf, fin, Format, prec, up, down, round, add, lt, ofInt, ofBits, binary64}
+use lib.Ieee.{Float, nan, inf, fin, Format, prec, up, down, round, add, lt, ofInt, ofBits, toBits, binary64}
 use lib.Ieee.Fits.{down-pos, ofInt-fits}
 use lib.Ieee.Bits.{ofBits-toBits}
 use lib.Ieee.Exact.{HasValue}
 use lib.Ieee.Scale.{round-same}
 use lib.Ieee.Back.{round-whole}
-use Rattle.float.specs.Dist.{Dist, zero64, plus64}
-use Rattle.float.specs.Cost.{badCost}
+use Rattle.float.specs.Dist.{Dist64, zero64, lt64, plus64}
 use Rattle.float.specs.Whole.{f64Of, bitsOf}
 use Rattle.float.proofs.Dist.{add-fin, cross-test, round-dist}
 use Rattle.float.proofs.Cost.{dist-good}
@@ -66,18 +65,24 @@ whole-lt f a b h k =
 
 -- ---- as costs and distances
 -- 0 is +0.0
-pub zero-is : zero64 ≡ f64Of 0
-unfolding zero64 ofBits ofInt
+pub zero-is : zero64 ≡ bitsOf 0
+unfolding toBits ofInt
 zero-is = refl
 
-pub whole-dist : (n : ℕ) → Dist binary64 (f64Of n)
+pub whole-good : (n : ℕ) → Dist64 (bitsOf n)
 unfolding ofInt
-whole-dist n = round-dist binary64 n 1
+whole-good n = dist-good binary64 (f64Of n) (round-dist binary64 n 1)
 
-pub whole-good : (n : ℕ) → badCost binary64 (bitsOf n) ≡ false
-whole-good n = dist-good binary64 (f64Of n) (whole-dist n)
+-- its pattern is read back as itself
+whole-value : (n : ℕ) → ofBits binary64 (bitsOf n) ≡ f64Of n
+whole-value n = ofBits-toBits binary64 (f64Of n) (ofInt-fits binary64 (pos n))
 
 -- a sum of at most 2^53 is exact
-pub whole-plus : (a b : ℕ) → a + b ≤ 2 ^ 53 → plus64 (f64Of a) (bitsOf b) ≡ f64Of (a + b)
+pub whole-plus : (a b : ℕ) → a + b ≤ 2 ^ 53 → plus64 (bitsOf a) (bitsOf b) ≡ bitsOf (a + b)
 unfolding plus64
-whole-plus a b h = ap (add binary64 (f64Of a)) (ofBits-toBits binary64 (f64Of b) (ofInt-fits binary64 (pos b))) ∙ whole-add binary64 a b h
+whole-plus a b h = ap (toBits binary64) (ap₂ (add binary64) (whole-value a) (whole-value b) ∙ whole-add binary64 a b h)
+
+-- and their order is that of the numbers
+pub whole-lt64 : (a b : ℕ) → a ≤ 2 ^ 53 → b ≤ 2 ^ 53 → lt64 (bitsOf a) (bitsOf b) ≡ ltb a b
+unfolding lt64
+whole-lt64 a b h k = ap₂ lt (whole-value a) (whole-value b) ∙ whole-lt binary64 a b h k

@@ -1,25 +1,23 @@
--- f64 distances: which values can be one, the first of them, and the sum with a cost.
+-- f64 distances, by their patterns: which patterns can be one, the first of them, their order, and the sum with a cost.
 -- Assumes nothing.
-use mathlib.Core.Bool.{Bool, false, not}
+use mathlib.Core.Path.{_≡_}
+use mathlib.Core.Bool.{Bool, false}
 use Prim.Native.Nat.{ℕ}
-use lib.Dec.{T}
-use lib.Ieee.{Float, nan, inf, fin, Format, binary64, fits, add, ofBits}
+use lib.Ieee.{binary64, lt, add, ofBits, toBits}
+use Rattle.float.specs.Cost.{badCost}
 
--- not a NaN, and the sign is clear
-abbrev pub clear : Float → Bool
-clear nan = false
-clear (inf s) = not s
-clear (fin s m e) = not s
-
--- a value of the format that can be a distance: zero, every value above it, +infinity
-pub record Dist (f : Format) (x : Float) : Type 0 where
-  pub is-clear : T (clear x)
-  pub is-held : T (fits f x)
+-- the sign is clear, and it is no NaN: zero, every value above it, +infinity
+abbrev pub Dist64 : ℕ → Type 0
+Dist64 d = badCost binary64 d ≡ false
 
 -- the source's distance: +0.0
-unfoldable pub zero64 : Float
-zero64 = ofBits binary64 0
+abbrev pub zero64 : ℕ
+zero64 = 0
 
--- a distance and the cost with the pattern b, added and rounded once
-unfoldable pub plus64 : Float → ℕ → Float
-plus64 d b = add binary64 d (ofBits binary64 b)
+-- the value of the first is below that of the second
+unfoldable pub lt64 : ℕ → ℕ → Bool
+lt64 a b = lt (ofBits binary64 a) (ofBits binary64 b)
+
+-- a distance and a cost, added and rounded once
+unfoldable pub plus64 : ℕ → ℕ → ℕ
+plus64 d b = toBits binary64 (add binary64 (ofBits binary64 d) (ofBits binary64 b))

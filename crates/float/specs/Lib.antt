@@ -1,5 +1,5 @@
-pub mod Dist
 pub mod Cost
+pub mod Dist
 pub mod Whole
 pub mod Cutoff
 pub mod Better

@@ -2,7 +2,6 @@
 -- Assumes nothing.
 use mathlib.Core.Path.{sym, ap, _∙_}
 use mathlib.Core.Bool.{Bool, cond}
-use lib.Ieee.{Float}
 use Rattle.clean.specs.None.{noneF64}
 use borrow.Author.Needs.{needs}
 use Rattle.float.proofs.counted.Statement.{statement}
