@@ -11,14 +11,14 @@ use lib.Dec.{eqb}
 use lib.ListN.{length}
 use lib.IntN.{ℤ, pos, _+ℤ_}
 use lib.Signed.{ltZ}
-use lib.Ieee.{Float, binary64, lt}
-use Rattle.float.specs.Dist.{zero64, plus64}
+use lib.Ieee.{binary64}
+use Rattle.float.specs.Dist.{zero64, lt64, plus64}
 use Rattle.float.specs.Cost.{badCost}
-use Rattle.float.specs.Whole.{f64Of, bitsOf}
+use Rattle.float.specs.Whole.{bitsOf}
 use Rattle.float.specs.Cutoff.{past}
 use Rattle.float.specs.declared.Cutoff.the-variants.{None}
 use Rattle.float.proofs.Dist.{ltb-no}
-use Rattle.float.proofs.Whole.{whole-lt, whole-plus, whole-good, zero-is}
+use Rattle.float.proofs.Whole.{whole-lt64, whole-plus, whole-good, zero-is}
 use Rattle.float.proofs.Past.{past-none}
 use Rattle.bag.specs.Order.{pick}
 use Rattle.walks.specs.Pigeon.{In}
@@ -40,15 +40,15 @@ pub record WholeCost (w : ℤ) (b : ℕ) : Type 0 where
   pub small : size ≤ 2 ^ 31
   pub bits : b ≡ bitsOf size
 
--- a whole distance after at most j takes, and the f64 that is the same number
-pub record WholeDist (j : ℕ) (z : ℤ) (x : Float) : Type 0 where
+-- a whole distance after at most j takes, and the pattern of the f64 that is the same number
+pub record WholeDist (j : ℕ) (z : ℤ) (x : ℕ) : Type 0 where
   pub size : ℕ
   pub is : z ≡ pos size
   pub small : size ≤ j * 2 ^ 31
-  pub value : x ≡ f64Of size
+  pub value : x ≡ bitsOf size
 
 -- at most j takes are at most j + 1
-wider : (j : ℕ) (z : ℤ) (x : Float) → WholeDist j z x → WholeDist (suc j) z x
+wider : (j : ℕ) (z : ℤ) (x : ℕ) → WholeDist j z x → WholeDist (suc j) z x
 wider j z x r = record { size = r .size; is = r .is; small = grow (r .size) (r .small); value = r .value }
   where
     grow : (n : ℕ) → n ≤ j * 2 ^ 31 → n ≤ suc j * 2 ^ 31
@@ -59,14 +59,14 @@ fits53 : (j n : ℕ) → j ≤ 1024 → n ≤ j * 2 ^ 31 → n ≤ 2 ^ 53
 fits53 j n a b = omega arith
 
 -- they compare alike
-same-lt : (j : ℕ) (a : ℤ) (x : Float) (b : ℤ) (y : Float) → j ≤ 1024 → WholeDist j a x → WholeDist j b y → ltZ a b ≡ lt x y
+same-lt : (j : ℕ) (a : ℤ) (x : ℕ) (b : ℤ) (y : ℕ) → j ≤ 1024 → WholeDist j a x → WholeDist j b y → ltZ a b ≡ lt64 x y
 same-lt j a x b y o r q =
     ap (λ (z : ℤ). ltZ z b) (r .is) ∙ ap (λ (z : ℤ). ltZ (pos (r .size)) z) (q .is)
-    ∙ sym (whole-lt binary64 (r .size) (q .size) (fits53 j (r .size) o (r .small)) (fits53 j (q .size) o (q .small)))
-    ∙ ap (λ (z : Float). lt z (f64Of (q .size))) (sym (r .value)) ∙ ap (lt x) (sym (q .value))
+    ∙ sym (whole-lt64 (r .size) (q .size) (fits53 j (r .size) o (r .small)) (fits53 j (q .size) o (q .small)))
+    ∙ ap (λ (z : ℕ). lt64 z (bitsOf (q .size))) (sym (r .value)) ∙ ap (lt64 x) (sym (q .value))
 
 -- a sum is exact
-same-plus : (j : ℕ) (d : ℤ) (x : Float) (w : ℤ) (b : ℕ) → suc j ≤ 1024 → WholeDist j d x → WholeCost w b → WholeDist (suc j) (d +ℤ w) (plus64 x b)
+same-plus : (j : ℕ) (d : ℤ) (x : ℕ) (w : ℤ) (b : ℕ) → suc j ≤ 1024 → WholeDist j d x → WholeCost w b → WholeDist (suc j) (d +ℤ w) (plus64 x b)
 same-plus j d x w b o r q =
     let m = r .size in
     let k = q .size in
@@ -75,7 +75,7 @@ same-plus j d x w b o r q =
       size = m + k;
       is = ap (λ (z : ℤ). z +ℤ w) (r .is) ∙ ap (λ (z : ℤ). pos m +ℤ z) (q .is);
       small = all;
-      value = ap (λ (z : Float). plus64 z b) (r .value) ∙ ap (plus64 (f64Of m)) (q .bits) ∙ whole-plus m k (fits53 (suc j) (m + k) o all);
+      value = ap (λ (z : ℕ). plus64 z b) (r .value) ∙ ap (plus64 (bitsOf m)) (q .bits) ∙ whole-plus m k (fits53 (suc j) (m + k) o all);
     }
   where
     add-up : (m k : ℕ) → m ≤ j * 2 ^ 31 → k ≤ 2 ^ 31 → m + k ≤ suc j * 2 ^ 31
@@ -89,7 +89,7 @@ same-bad w b q = ap (λ (z : ℤ). ltZ z (pos 0)) (q .is) ∙ sym (ltb-no (q .si
 pub exact : (Arc : ℕ → ℕ → ℤ → Type 0) (arcs : ℕ → List (ℕ × ℕ))
     → ((u v : ℕ) (c : ℤ) → Arc u v c → (b : ℕ) × ArcOf arcs u v b × WholeCost c b) → ((u v b : ℕ) → ArcOf arcs u v b → (c : ℤ) × Arc u v c × WholeCost c b)
     → (o : ℕ) (ps : List ℕ) → In o ps → ((u v : ℕ) (c : ℤ) → Arc u v c → In v ps) → length ps ≤ 1024
-    → (e : End ℤ) → Ends (dijkstra o) Arc (begin (dijkstra o)) 0 e → (f : End Float) × Ends64 (ArcOf arcs) None o f × AlikeEnd WholeDist e f
+    → (e : End ℤ) → Ends (dijkstra o) Arc (begin (dijkstra o)) 0 e → (f : End ℕ) × Ends64 (ArcOf arcs) None o f × AlikeEnd WholeDist e f
 exact Arc arcs to from o ps i heads few e r =
     ends-alike (dijkstra o) (search64 (past None) none o) (laws64 (past None) none o) WholeDist WholeCost 1024 wider same-lt (λ j a x v n k. k) same-plus (λ j a x n k. sym (past-none x)) same-bad refl Arc arcs to from
     (begin-ok (search64 (past None) none o) (laws64 (past None) none o)) start r bound
