@@ -7,13 +7,11 @@ use mathlib.Core.Logic.{_⊎_, inl, inr}
 use mathlib.Core.Option.{none}
 use Prim.Native.Nat.{ℕ, _+_, _≤_, _<_}
 use native.Mathlib.Omega.{arith}
-use lib.Ieee.{Float, binary64, ofBits}
 use lib.ListN.{length}
 use lib.Seq.{getD-take}
 use Rattle.clean.specs.Fill.{filled, Settled}
 use Rattle.clean.specs.None.{noneF64, noneU32, shown}
 use Rattle.clean.proofs.Filled.{filled-same, settle}
-use Rattle.float.specs.Dist.{zero64}
 use Rattle.float.specs.Cutoff.{past, limitOf}
 use Rattle.float.specs.declared.Cutoff.the-variants.{At}
 use Rattle.float.proofs.Past.{past-limit}
@@ -36,7 +34,7 @@ use Rattle.dijkstra_path.specs.Parts.{refusalNo, Ran}
 use Rattle.dijkstra_path.proofs.Refusals.{passed, whole-of, long-of}
 
 -- the lists of a search among the buffers
-abbrev pub memory : Buffers → Memory Float
+abbrev pub memory : Buffers → Memory ℕ
 memory b = memoryOf (b .dist) (b .preds) (b .heap) (b .places) (b .keys)
 
 abbrev pub lists : Buffers → Lists ℕ
@@ -72,7 +70,7 @@ module _ (m n : ℕ) (d : Bool) (marks xs ys bs os : List ℕ) (s : ℕ) (b : Bu
     pub list-sound : Sound m nb
     list-sound = open-sound (netOf64 m n d marks xs ys bs os) inside r (limits .indices) room
 
-    module _ {k : Cutoff} {M : Memory Float} {no : ℕ} (v : Ran k m s nb (memory b) M no) {a : ℕ} (is : a ≡ arcRoom d n) where
+    module _ {k : Cutoff} {M : Memory ℕ} {no : ℕ} (v : Ran k m s nb (memory b) M no) {a : ℕ} (is : a ≡ arcRoom d n) where
       -- the scratch may be wiped, and the answers blanked
       pub record Wipes : Type 0 where
         pub bounded : m ≤ 1024
@@ -108,10 +106,9 @@ module _ (m n : ℕ) (d : Bool) (marks xs ys bs os : List ℕ) (s : ℕ) (b : Bu
       }
 
       -- what the wiping leaves
-      module _ {o h w q i : List ℕ} {y : List Float} (o-is : o ≡ filled (m + 1) 0 (nb .offsets)) (h-is : h ≡ filled a 0 (nb .heads)) (w-is : w ≡ filled a 0 (nb .weights))
-          (q-is : q ≡ filled m 0 (M .heap)) (i-is : i ≡ filled m 0 (M .places)) (y-is : y ≡ filled m (ofBits binary64 0) (M .keys)) where
-        wiped : (x : List Float) (p : List ℕ) → buffersOf x p o h w q i y ≡ left (netOf64 m n d marks xs ys bs os) b x p
-        unfolding zero64
+      module _ {o h w q i y : List ℕ} (o-is : o ≡ filled (m + 1) 0 (nb .offsets)) (h-is : h ≡ filled a 0 (nb .heads)) (w-is : w ≡ filled a 0 (nb .weights))
+          (q-is : q ≡ filled m 0 (M .heap)) (i-is : i ≡ filled m 0 (M .places)) (y-is : y ≡ filled m 0 (M .keys)) where
+        wiped : (x p : List ℕ) → buffersOf x p o h w q i y ≡ left (netOf64 m n d marks xs ys bs os) b x p
         wiped x p =
             let t = open-kept (netOf64 m n d marks xs ys bs os) inside r in
             let eo = o-is ∙ filled-same (m + 1) 0 (nb .offsets) (b .offsets) (t .offsets .rest) in
@@ -119,7 +116,7 @@ module _ (m n : ℕ) (d : Bool) (marks xs ys bs os : List ℕ) (s : ℕ) (b : Bu
             let ew = w-is ∙ ap (λ (j : ℕ). filled j 0 (nb .weights)) is ∙ filled-same (arcRoom d n) 0 (nb .weights) (b .weights) (t .weights .rest) in
             let eq = q-is ∙ filled-same m 0 (M .heap) (b .heap) (v .ran .kept .heap .rest) in
             let ei = i-is ∙ filled-same m 0 (M .places) (b .places) (v .ran .kept .places .rest) in
-            let ey = y-is ∙ filled-same m (ofBits binary64 0) (M .keys) (b .keys) (v .ran .kept .keys .rest) in
+            let ey = y-is ∙ filled-same m 0 (M .keys) (b .keys) (v .ran .kept .keys .rest) in
             λ j. buffersOf x p (eo j) (eh j) (ew j) (eq j) (ei j) (ey j)
 
         -- done
@@ -129,7 +126,7 @@ module _ (m n : ℕ) (d : Bool) (marks xs ys bs os : List ℕ) (s : ℕ) (b : Bu
             done refl (x .0) (x .1) (x .2) (v .ran .searched .end) ends-in (sym (v .ran .searched .is) ∙ e) (record { dist = dists e; preds = names e }) (wiped (M .dist) (M .preds))
 
         -- a bad cost
-        pub answer-bad : (no ≡ 0 → ⊥) → {x : List Float} {p : List ℕ} → x ≡ filled m noneF64 (M .dist) → p ≡ filled m noneU32 (M .preds) → Promise (netOf64 m n d marks xs ys bs os) s k b (buffersOf x p o h w q i y) no
+        pub answer-bad : (no ≡ 0 → ⊥) → {x p : List ℕ} → x ≡ filled m noneF64 (M .dist) → p ≡ filled m noneU32 (M .preds) → Promise (netOf64 m n d marks xs ys bs os) s k b (buffersOf x p o h w q i y) no
         answer-bad f {x} {p} ex ep = go (number-is (v .ran .searched .ends))
           where
             go : (v .ran .searched .end .number ≡ 0) ⊎ (v .ran .searched .end .number ≡ 6) → Promise (netOf64 m n d marks xs ys bs os) s k b (buffersOf x p o h w q i y) no

@@ -14,7 +14,7 @@ use lib.ListN.{getD}
 use lib.Ieee.{Float, inf, binary64, lt, fits, ofBits}
 use Rattle.whole.proofs.Cases.{other, and-left}
 use Rattle.clean.specs.None.{noneF64, noneU32, shown}
-use Rattle.float.specs.Dist.{Dist, zero64}
+use Rattle.float.specs.Dist.{Dist64, zero64, lt64}
 use Rattle.float.specs.Cutoff.{past}
 use Rattle.float.specs.declared.Cutoff.{Cutoff}
 use Rattle.float.specs.declared.Cutoff.the-variants.{At}
@@ -37,7 +37,7 @@ use Rattle.dijkstra_path.specs.Promise.{Buffers, longEnough, EndsIn, Pro
 
 -- after 0 the entries show an end of the pending bag
 pub record Showing (g : Net FloatCost) (s : ℕ) (k : Cutoff) (e : Buffers) : Type 0 where
-  pub end : End Float
+  pub end : End ℕ
   pub ends : EndsIn g s k end
   pub number : end .number ≡ 0
   pub limit : g .bound ≤ 1024
@@ -63,9 +63,9 @@ showing {g} {b = b} (done n p i h x r y a q) z = record {
 }
 
 -- the entries of an index: none and none, or a distance and an index below m as its predecessor
-pub data Paired (m : ℕ) (d : Float) (p : ℕ) : Type 0 where
+pub data Paired (m d p : ℕ) : Type 0 where
   missing : d ≡ noneF64 → p ≡ noneU32 → Paired m d p
-  reached : Dist binary64 d → p < m → Paired m d p
+  reached : Dist64 d → p < m → Paired m d p
 
 module _ {g : Net FloatCost} {s : ℕ} {k : Cutoff} {b e : Buffers} {no : ℕ} (promise : Promise g s k b e no) (zero : no ≡ 0) where
   -- the source: +0.0 and no predecessor
@@ -83,16 +83,16 @@ module _ {g : Net FloatCost} {s : ℕ} {k : Cutoff} {b e : Buffers} {no : ℕ} (
       w : Showing g s k e
       w = showing promise zero
 
-      go : {x : Option Float} {p : Option ℕ} → w .end .dist v ≡ x → w .end .pred v ≡ p → Both x p → Paired (g .bound) (getD (e .dist) v noneF64) (getD (e .preds) v noneU32)
+      go : {x p : Option ℕ} → w .end .dist v ≡ x → w .end .pred v ≡ p → Both x p → Paired (g .bound) (getD (e .dist) v noneF64) (getD (e .preds) v noneU32)
       go i j neither = missing (w .dist v l ∙ ap (shown noneF64) i) (w .preds v l ∙ ap (shown noneU32) j)
       go i j (both {d} {u}) =
           let a = pred-arc (search64 (past k) none s) (OpenArcOf g) (w .ends .run) v u j in
           reached
-          (subst (Dist binary64) (sym (w .dist v l ∙ ap (shown noneF64) i)) (good-dist (search64 (past k) none s) (laws64 (past k) none s) (OpenArcOf g) (w .ends .run) v i))
+          (subst Dist64 (sym (w .dist v l ∙ ap (shown noneF64) i)) (good-dist (search64 (past k) none s) (laws64 (past k) none s) (OpenArcOf g) (w .ends .run) v i))
           (subst (λ (z : ℕ). z < g .bound) (sym (w .preds v l ∙ ap (shown noneU32) j)) (open-below g (w .inside) u v (a .0) (a .1) .0))
 
 -- under a cutoff below zero every other index has none
-pub source-alone : (c : Float) → T (fits binary64 c) → lt c zero64 ≡ true → {g : Net FloatCost} {s : ℕ} {b e : Buffers} {no : ℕ} → Promise g s (At c) b e no → no ≡ 0
+pub source-alone : (c : Float) → T (fits binary64 c) → lt c (ofBits binary64 zero64) ≡ true → {g : Net FloatCost} {s : ℕ} {b e : Buffers} {no : ℕ} → Promise g s (At c) b e no → no ≡ 0
     → (v : ℕ) → v < g .bound → (v ≡ s → ⊥) → (getD (e .dist) v noneF64 ≡ noneF64) × (getD (e .preds) v noneU32 ≡ noneU32)
 source-alone c held below {g} {s} {e = e} promise zero v l n = go refl refl (from-source64 (past (At c)) none s (OpenArcOf g) (w .end) (w .ends .run) (w .number) .others v n)
   where
@@ -102,22 +102,22 @@ source-alone c held below {g} {s} {e = e} promise zero v l n = go refl refl (fro
     lone : w .end .dist v ≡ none
     lone = source-alone64 c held below s (OpenArcOf g) (w .end) (w .ends .run) v n
 
-    go : {x : Option Float} {p : Option ℕ} → w .end .dist v ≡ x → w .end .pred v ≡ p → Both x p → (getD (e .dist) v noneF64 ≡ noneF64) × (getD (e .preds) v noneU32 ≡ noneU32)
+    go : {x p : Option ℕ} → w .end .dist v ≡ x → w .end .pred v ≡ p → Both x p → (getD (e .dist) v noneF64 ≡ noneF64) × (getD (e .preds) v noneU32 ≡ noneU32)
     go i j neither = (w .dist v l ∙ ap (shown noneF64) i, w .preds v l ∙ ap (shown noneU32) j)
     go i j both = absurd (let q = sym i ∙ lone in let z : _≡_ {A = ℕ} 0 1 = cc in omega arith)
 
 -- -infinity is such a cutoff
-pub infinity-below : T (fits binary64 (inf true)) × (lt (inf true) zero64 ≡ true)
-unfolding lt fits zero64 ofBits
+pub infinity-below : T (fits binary64 (inf true)) × (lt (inf true) (ofBits binary64 zero64) ≡ true)
+unfolding lt fits ofBits
 infinity-below = (tt, refl)
 
 -- no index is taken and kept twice, and keys come out in rising order
-pub takes-rise : (g : Net FloatCost) (s : ℕ) (k : Cutoff) {l : List (ℕ × Float)} {c : ℕ → Cell Float} {u : ℕ} {d : Float} {p : Option ℕ}
-    → Took (search64 (past k) none s) (OpenArcOf g) l c → Takes (search64 (past k) none s) c u d p → NoDup (u ∷ indices l) × Rising lt ((u, d) ∷ l)
+pub takes-rise : (g : Net FloatCost) (s : ℕ) (k : Cutoff) {l : List (ℕ × ℕ)} {c : ℕ → Cell ℕ} {u d : ℕ} {p : Option ℕ}
+    → Took (search64 (past k) none s) (OpenArcOf g) l c → Takes (search64 (past k) none s) c u d p → NoDup (u ∷ indices l) × Rising lt64 ((u, d) ∷ l)
 takes-rise g s k = once-rising64 (past k) none s (OpenArcOf g)
 
 -- so there are no more kept takes than present indices
-pub takes-few64 : {g : Net FloatCost} {s : ℕ} {k : Cutoff} {x : End Float} → insideNet g ≡ true → has g s ≡ true → EndsIn g s k x → x .takes ≤ width g
+pub takes-few64 : {g : Net FloatCost} {s : ℕ} {k : Cutoff} {x : End ℕ} → insideNet g ≡ true → has g s ≡ true → EndsIn g s k x → x .takes ≤ width g
 takes-few64 {g} {s} {k} i h r =
     let S = search64 (past k) none s in
     let L = laws64 (past k) none s in

@@ -12,12 +12,12 @@ use Prim.Native.Nat.{ℕ, _≤_, _<_}
 use native.Mathlib.Omega.{arith}
 use lib.IntN.{ℤ, pos}
 use lib.ListN.{getD}
-use lib.Ieee.{Float, binary64}
+use lib.Ieee.{binary64}
 use Rattle.whole.proofs.Cases.{other}
 use Rattle.clean.specs.None.{noneI64, noneF64, noneU32, shown}
 use Rattle.float.specs.Cost.{badCost}
 use Rattle.float.specs.Cutoff.{past}
-use Rattle.float.specs.Whole.{f64Of}
+use Rattle.float.specs.Whole.{bitsOf}
 use Rattle.float.specs.declared.Cutoff.the-variants.{None}
 use Rattle.float.proofs.Whole.{whole-good}
 use Rattle.table.specs.Links.{arcs}
@@ -57,17 +57,17 @@ listed-open : (g : Net FloatCost) (u v x : ℕ) → OpenArcOf g u v x → ArcOf 
 listed-open g u v x a = pairs-are (g .directed) (openLinks (linksOf g)) u v x .1 (open-arcs (g .directed) (linksOf g) u v x .1 a)
 
 -- a whole distance, or none, and the entry that is the same number
-abbrev pub SameNumber : Option ℤ → Float → Type 0
+abbrev pub SameNumber : Option ℤ → ℕ → Type 0
 SameNumber none d = d ≡ noneF64
-SameNumber (some z) d = (n : ℕ) × (z ≡ pos n) × (d ≡ f64Of n)
+SameNumber (some z) d = (n : ℕ) × (z ≡ pos n) × (d ≡ bitsOf n)
 
 module _ {g : Net FloatCost} {s : ℕ} (Arc : ℕ → ℕ → ℤ → Type 0) (to : (u v : ℕ) (c : ℤ) → Arc u v c → (x : ℕ) × OpenArcOf g u v x × WholeCost c x)
     (from : (u v x : ℕ) → OpenArcOf g u v x → (c : ℤ) × Arc u v c × WholeCost c x) where
   -- the two searches correspond
-  pub exact-end : g .bound ≤ 1024 → insideNet g ≡ true → has g s ≡ true → {i : End ℤ} {x : End Float} → Ends (dijkstra s) Arc (begin (dijkstra s)) 0 i → EndsIn g s None x → AlikeEnd WholeDist i x
+  pub exact-end : g .bound ≤ 1024 → insideNet g ≡ true → has g s ≡ true → {i : End ℤ} {x : End ℕ} → Ends (dijkstra s) Arc (begin (dijkstra s)) 0 i → EndsIn g s None x → AlikeEnd WholeDist i x
   exact-end few inside at {i} {x} r q = subst (AlikeEnd WholeDist i) (one-end (record { run = over }) q) (found .2)
     where
-      found : (f : End Float) × Ends (search64 (past None) none s) (ArcOf (openPairs g)) (begin (search64 (past None) none s)) 0 f × AlikeEnd WholeDist i f
+      found : (f : End ℕ) × Ends (search64 (past None) none s) (ArcOf (openPairs g)) (begin (search64 (past None) none s)) 0 f × AlikeEnd WholeDist i f
       found =
           exact Arc (openPairs g)
           (λ u v c a. let w = to u v c a in (w .0, listed-open g u v (w .0) (w .1), w .2))

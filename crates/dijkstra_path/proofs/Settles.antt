@@ -7,11 +7,11 @@ use mathlib.Core.Logic.{_⊎_, inl, inr, _↔_}
 use mathlib.Core.Option.{none}
 use Prim.Native.Nat.{ℕ, _+_, _*_, _≤_}
 use native.Mathlib.Omega.{arith}
-use lib.Ieee.{Float, nan, inf, binary64, ofBits}
+use lib.Ieee.{nan, inf, binary64, ofBits}
 use Rattle.whole.proofs.Cases.{clash, other}
 use Rattle.clean.specs.None.{noneF64, noneU32}
 use Rattle.clean.proofs.Filled.{settled-one}
-use Rattle.float.specs.Dist.{Dist, zero64}
+use Rattle.float.specs.Dist.{Dist64, zero64}
 use Rattle.float.specs.Cutoff.{past}
 use Rattle.float.specs.declared.Cutoff.{Cutoff}
 use Rattle.float.specs.declared.Cutoff.the-variants.{None, At}
@@ -29,25 +29,25 @@ use Rattle.dijkstra_path.specs.Promise.{Buffers, enough, left, blank, En
 
 -- ---- two answers that the promise allows are equal
 -- the pending bag ends in one way
-pub one-end : {g : Net FloatCost} {s : ℕ} {k : Cutoff} {x y : End Float} → EndsIn g s k x → EndsIn g s k y → x ≡ y
+pub one-end : {g : Net FloatCost} {s : ℕ} {k : Cutoff} {x y : End ℕ} → EndsIn g s k x → EndsIn g s k y → x ≡ y
 one-end {g} {s} {k} p q = ends-one (search64 (past k) none s) (laws64 (past k) none s) (OpenArcOf g) (begin-ok (search64 (past k) none s) (laws64 (past k) none s)) (p .run) (q .run)
 
 -- and shows in one way
-pub answers-one : {m : ℕ} {x y : End Float} {b e e′ : Buffers} → x ≡ y → Answers m x b e → Answers m y b e′ → (e .dist ≡ e′ .dist) × (e .preds ≡ e′ .preds)
+pub answers-one : {m : ℕ} {x y : End ℕ} {b e e′ : Buffers} → x ≡ y → Answers m x b e → Answers m y b e′ → (e .dist ≡ e′ .dist) × (e .preds ≡ e′ .preds)
 answers-one {m} {x} {y} {b} {e} {e′} q p p′ =
-    let r : Answers m y b e = subst (λ (z : End Float). Answers m z b e) q p in
+    let r : Answers m y b e = subst (λ (z : End ℕ). Answers m z b e) q p in
     (settled-one noneF64 (λ i h u v a c. a ∙ sym c) (r .dist) (p′ .dist), settled-one noneU32 (λ i h u v a c. a ∙ sym c) (r .preds) (p′ .preds))
 
 -- one number is not two
-split : {g : Net FloatCost} {s : ℕ} {k : Cutoff} {x y : End Float} → EndsIn g s k x → x .number ≡ 6 → EndsIn g s k y → y .number ≡ 0 → ⊥
-split {x = x} {y = y} p a q b = let c : x .number ≡ y .number = ap (λ (z : End Float). z .number) (one-end p q) in omega (arith, a, b, c)
+split : {g : Net FloatCost} {s : ℕ} {k : Cutoff} {x y : End ℕ} → EndsIn g s k x → x .number ≡ 6 → EndsIn g s k y → y .number ≡ 0 → ⊥
+split {x = x} {y = y} p a q b = let c : x .number ≡ y .number = ap (λ (z : End ℕ). z .number) (one-end p q) in omega (arith, a, b, c)
 
 module _ (g : Net FloatCost) (s : ℕ) (k : Cutoff) (b : Buffers) where
   -- after the tests: a bad cost, or done
   abbrev After : Buffers → ℕ → Type 0
   After e n =
-      ((n ≡ 6) × (e ≡ blank g b) × (x : End Float) × EndsIn g s k x × (x .number ≡ 6))
-      ⊎ ((n ≡ 0) × (e ≡ left g b (e .dist) (e .preds)) × (x : End Float) × EndsIn g s k x × (x .number ≡ 0) × Answers (g .bound) x b e)
+      ((n ≡ 6) × (e ≡ blank g b) × (x : End ℕ) × EndsIn g s k x × (x .number ≡ 6))
+      ⊎ ((n ≡ 0) × (e ≡ left g b (e .dist) (e .preds)) × (x : End ℕ) × EndsIn g s k x × (x .number ≡ 0) × Answers (g .bound) x b e)
 
   after-one : {e e′ : Buffers} {no no′ : ℕ} → After e no → After e′ no′ → (no ≡ no′) × (e ≡ e′)
   after-one (inl x) (inl y) = (x .0 ∙ sym (y .0), x .1 ∙ sym (y .1))
@@ -91,7 +91,7 @@ module _ {g : Net FloatCost} {s : ℕ} {k : Cutoff} {b : Buffers} where
     three-exactly (done n p i h x r z a q) = (λ y. other 0 3 n y (λ w. omega arith), λ y. absurd (clash h (y .2)))
 
     -- the pending bag takes and keeps an index with a bad open arc
-    pub six-exactly : Promise g s k b e no → (no ≡ 6) ↔ ((enough g b ≡ true) × (insideNet g ≡ true) × (has g s ≡ true) × (x : End Float) × EndsIn g s k x × (x .number ≡ 6))
+    pub six-exactly : Promise g s k b e no → (no ≡ 6) ↔ ((enough g b ≡ true) × (insideNet g ≡ true) × (has g s ≡ true) × (x : End ℕ) × EndsIn g s k x × (x .number ≡ 6))
     six-exactly (short n p q) = (λ y. other 1 6 n y (λ w. omega arith), λ y. absurd (clash (y .0) p))
     six-exactly (outside n p i q) = (λ y. other 2 6 n y (λ w. omega arith), λ y. absurd (clash (y .1) i))
     six-exactly (absent n p i h q) = (λ y. other 3 6 n y (λ w. omega arith), λ y. absurd (clash (y .2) h))
@@ -103,13 +103,13 @@ module _ {g g′ : Net FloatCost} (same : SameNet g g′) where
   same-enough : (b : Buffers) → enough g b ≡ enough g′ b
   same-enough b = rw (same .whole, same .bound, same-size same)
 
-  same-left : (b : Buffers) (d : List Float) (p : List ℕ) → left g b d p ≡ left g′ b d p
+  same-left : (b : Buffers) (d : List ℕ) (p : List ℕ) → left g b d p ≡ left g′ b d p
   same-left b d p = rw (same .bound, same-size same)
 
   same-blank : (b : Buffers) → blank g b ≡ blank g′ b
   same-blank b = same-left b _ _ ∙ rw (same .bound)
 
-  ends-over : {s : ℕ} {k : Cutoff} {x : End Float} → EndsIn g s k x → EndsIn g′ s k x
+  ends-over : {s : ℕ} {k : Cutoff} {x : End ℕ} → EndsIn g s k x → EndsIn g′ s k x
   ends-over {s} {k} r = record { run = ends-map (search64 (past k) none s) (OpenArcOf g) (OpenArcOf g′) (λ u v c. same-open same u v c .0) (λ u v c. same-open same u v c .1) (r .run) }
 
   pub promise-arcs : {s : ℕ} {k : Cutoff} {b e : Buffers} {no : ℕ} → Promise g s k b e no → Promise g′ s k b e no
@@ -125,8 +125,8 @@ module _ {g g′ : Net FloatCost} (same : SameNet g g′) where
   same-answers p q = promise-one (promise-arcs p) q
 
 -- ---- cutoffs that cut the same distances
-module _ (k k′ : Cutoff) (alike : (x : Float) → Dist binary64 x → past k x ≡ past k′ x) where
-  cut-over : {g : Net FloatCost} {s : ℕ} {x : End Float} → EndsIn g s k x → EndsIn g s k′ x
+module _ (k k′ : Cutoff) (alike : (x : ℕ) → Dist64 x → past k x ≡ past k′ x) where
+  cut-over : {g : Net FloatCost} {s : ℕ} {x : End ℕ} → EndsIn g s k x → EndsIn g s k′ x
   cut-over {g} {s} {x} r = record { run = same-cutoff64 k k′ alike s (OpenArcOf g) x (r .run) }
 
   pub promise-cut : {g : Net FloatCost} {s : ℕ} {b e : Buffers} {no : ℕ} → Promise g s k b e no → Promise g s k′ b e no
@@ -144,8 +144,8 @@ pub cutoff-infinity : {g : Net FloatCost} {s : ℕ} {b e : Buffers} {no : ℕ} �
 cutoff-infinity = (promise-cut (At (inf false)) None (λ x p. past-infinity x ∙ sym (past-none x)), promise-cut None (At (inf false)) (λ x p. past-none x ∙ sym (past-infinity x)))
 
 -- -0.0 acts as 0.0
-pub cutoff-minus : {g : Net FloatCost} {s : ℕ} {b e : Buffers} {no : ℕ} → Promise g s (At (ofBits binary64 0x8000_0000_0000_0000)) b e no ↔ Promise g s (At zero64) b e no
-cutoff-minus = (promise-cut (At (ofBits binary64 0x8000_0000_0000_0000)) (At zero64) (λ x p. past-minus x (p .is-clear)), promise-cut (At zero64) (At (ofBits binary64 0x8000_0000_0000_0000)) (λ x p. sym (past-minus x (p .is-clear))))
+pub cutoff-minus : {g : Net FloatCost} {s : ℕ} {b e : Buffers} {no : ℕ} → Promise g s (At (ofBits binary64 0x8000_0000_0000_0000)) b e no ↔ Promise g s (At (ofBits binary64 zero64)) b e no
+cutoff-minus = (promise-cut (At (ofBits binary64 0x8000_0000_0000_0000)) (At (ofBits binary64 zero64)) (λ x p. past-minus x p), promise-cut (At (ofBits binary64 zero64)) (At (ofBits binary64 0x8000_0000_0000_0000)) (λ x p. sym (past-minus x p)))
 
 -- ---- the scratch is within what 01 allows
 pub scratch-budget : (m a : ℕ) → (m + 1) + a + a + m + m + m ≤ 8 * (m + 1) + 4 * a

@@ -6,10 +6,9 @@ use mathlib.Core.Logic.{_⊎_, inl, inr}
 use mathlib.Core.List.{List}
 use Prim.Native.Nat.{ℕ, _<_}
 use lib.ListN.{length, getD}
-use lib.Ieee.{Float, binary64, nan}
+use lib.Ieee.{Float}
 use Rattle.clean.specs.None.{noneF64}
-use Rattle.float.specs.Dist.{Dist, plus64}
-use Rattle.float.specs.Cost.{badCost}
+use Rattle.float.specs.Dist.{Dist64, plus64}
 use Rattle.float.specs.Stored.{Stored, none, some}
 use Rattle.float.specs.Cutoff.{past}
 use Rattle.float.specs.Better.{betterThan, betterWithin}
@@ -21,25 +20,25 @@ use Rattle.dijkstra_path.specs.Search.{kind64}
 use Rattle.dijkstra_path.proofs.Floats.{better-at}
 
 -- an entry that is blank or a distance, whatever stands for a missing one
-pub entry-stored : (l : List Float) (v : ℕ) → v < length l → (getD l v noneF64 ≡ noneF64) ⊎ Dist binary64 (getD l v noneF64) → Stored (getD l v nan)
-entry-stored l v h e = subst Stored (no-default l v noneF64 nan h) (go e)
+pub entry-stored : (l : List ℕ) (v : ℕ) → v < length l → (getD l v noneF64 ≡ noneF64) ⊎ Dist64 (getD l v noneF64) → Stored (getD l v 0)
+entry-stored l v h e = subst Stored (no-default l v noneF64 0 h) (go e)
   where
-    go : (getD l v noneF64 ≡ noneF64) ⊎ Dist binary64 (getD l v noneF64) → Stored (getD l v noneF64)
+    go : (getD l v noneF64 ≡ noneF64) ⊎ Dist64 (getD l v noneF64) → Stored (getD l v noneF64)
     go (inl q) = subst Stored (sym q) none
     go (inr p) = some p
 
 -- the sum that was made is a distance
-pub sum-dist : (d : Float) (b : ℕ) {x : Float} → x ≡ plus64 d b → Dist binary64 d → badCost binary64 b ≡ false → Dist binary64 x
-sum-dist d b e p g = subst (Dist binary64) (sym e) (plus-dist d b p g)
+pub sum-dist : (d b : ℕ) {x : ℕ} → x ≡ plus64 d b → Dist64 d → Dist64 b → Dist64 x
+sum-dist d b e p g = subst Dist64 (sym e) (plus-dist d b p g)
 
-module _ (limit : Float) (d : Float) (b : ℕ) {x : Float} (sum : x ≡ plus64 d b) (l : List Float) (v : ℕ) (h : v < length l) where
+module _ (limit : Float) (d b : ℕ) {x : ℕ} (sum : x ≡ plus64 d b) (l : List ℕ) (v : ℕ) (h : v < length l) where
   -- what one arc asks, of the sum that was made
-  tests : betterWithin limit x (getD l v nan) ≡ not (past (At limit) (plus64 d b)) && betterAt (kind64 limit) (plus64 d b) (getD l v noneF64)
+  tests : betterWithin limit x (getD l v 0) ≡ not (past (At limit) (plus64 d b)) && betterAt (kind64 limit) (plus64 d b) (getD l v noneF64)
   unfolding betterWithin
-  tests = ap₂ (λ (z : Float) (y : Bool). not (past (At limit) z) && y) sum (ap (λ (z : Float). betterThan z (getD l v nan)) sum ∙ better-at limit (plus64 d b) (getD l v nan) ∙ ap (λ (z : Float). betterAt (kind64 limit) (plus64 d b) z) (no-default l v nan noneF64 h))
+  tests = ap₂ (λ (z : ℕ) (y : Bool). not (past (At limit) z) && y) sum (ap (λ (z : ℕ). betterThan z (getD l v 0)) sum ∙ better-at limit (plus64 d b) (getD l v 0) ∙ ap (λ (z : ℕ). betterAt (kind64 limit) (plus64 d b) z) (no-default l v 0 noneF64 h))
 
   -- yes: it is not past the cutoff, and better than what stands there
-  pub stored-is : {s : Bool} → s ≡ betterWithin limit x (getD l v nan) → s ≡ true → (past (At limit) (plus64 d b) ≡ false) × (betterAt (kind64 limit) (plus64 d b) (getD l v noneF64) ≡ true)
+  pub stored-is : {s : Bool} → s ≡ betterWithin limit x (getD l v 0) → s ≡ true → (past (At limit) (plus64 d b) ≡ false) × (betterAt (kind64 limit) (plus64 d b) (getD l v noneF64) ≡ true)
   stored-is e f = go (past (At limit) (plus64 d b)) (betterAt (kind64 limit) (plus64 d b) (getD l v noneF64)) (sym tests ∙ sym e ∙ f)
     where
       go : (t u : Bool) → (not t && u) ≡ true → (t ≡ false) × (u ≡ true)
@@ -48,7 +47,7 @@ module _ (limit : Float) (d : Float) (b : ℕ) {x : Float} (sum : x ≡ plus64 d
       go true u z = absurd (true≢false (sym z))
 
   -- no: it is past it, or no better
-  pub left-is : {s : Bool} → s ≡ betterWithin limit x (getD l v nan) → s ≡ false → (past (At limit) (plus64 d b) ≡ true) ⊎ ((past (At limit) (plus64 d b) ≡ false) × (betterAt (kind64 limit) (plus64 d b) (getD l v noneF64) ≡ false))
+  pub left-is : {s : Bool} → s ≡ betterWithin limit x (getD l v 0) → s ≡ false → (past (At limit) (plus64 d b) ≡ true) ⊎ ((past (At limit) (plus64 d b) ≡ false) × (betterAt (kind64 limit) (plus64 d b) (getD l v noneF64) ≡ false))
   left-is e f = go (past (At limit) (plus64 d b)) (betterAt (kind64 limit) (plus64 d b) (getD l v noneF64)) (sym tests ∙ sym e ∙ f)
     where
       go : (t u : Bool) → (not t && u) ≡ false → (t ≡ true) ⊎ ((t ≡ false) × (u ≡ false))

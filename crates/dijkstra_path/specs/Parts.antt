@@ -3,7 +3,6 @@
 use mathlib.Core.Bool.{cond}
 use mathlib.Core.Option.{none}
 use Prim.Native.Nat.{ℕ}
-use lib.Ieee.{Float}
 use Rattle.float.specs.Cutoff.{limitOf}
 use Rattle.float.specs.declared.Cutoff.{Cutoff}
 use Rattle.table.specs.Lent.{FloatCost}
@@ -19,6 +18,6 @@ unfoldable pub refusalNo : Net FloatCost → ℕ → Buffers → ℕ
 refusalNo g s b = cond (enough g b) (cond (insideNet g) (cond (has g s) 0 3) 2) 1
 
 -- a search on the part used of each list, after some number of takes
-pub record Ran (k : Cutoff) (m s : ℕ) (nb : Lists ℕ) (M M′ : Memory Float) (no : ℕ) : Type 0 where
+pub record Ran (k : Cutoff) (m s : ℕ) (nb : Lists ℕ) (M M′ : Memory ℕ) (no : ℕ) : Type 0 where
   pub takes : ℕ
   pub ran : RanBy (kind64 (limitOf k)) m none s nb M M′ no takes

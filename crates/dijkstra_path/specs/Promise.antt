@@ -6,11 +6,9 @@ use mathlib.Core.List.{List}
 use mathlib.Core.Option.{none}
 use Prim.Native.Nat.{ℕ, _+_}
 use lib.Dec.{leb}
-use lib.Ieee.{Float}
 use lib.ListN.{length}
 use Rattle.clean.specs.Fill.{filled, Settled}
 use Rattle.clean.specs.None.{noneF64, noneU32, shown}
-use Rattle.float.specs.Dist.{zero64}
 use Rattle.float.specs.Cutoff.{past}
 use Rattle.float.specs.declared.Cutoff.{Cutoff}
 use Rattle.table.specs.Lent.{FloatCost}
@@ -19,18 +17,18 @@ use Rattle.pending.specs.Setting.{End}
 use Rattle.pending.specs.OnePlace.{begin, Ends}
 use Rattle.pending.specs.Floats.{search64}
 
--- the lent buffers: distances and predecessors, and the scratch
+-- the lent buffers: distances, as patterns, and predecessors, and the scratch
 pub record Buffers : Type 0 where
-  pub dist : List Float
+  pub dist : List ℕ
   pub preds : List ℕ
   pub offsets : List ℕ
   pub heads : List ℕ
   pub weights : List ℕ
   pub heap : List ℕ
   pub places : List ℕ
-  pub keys : List Float
+  pub keys : List ℕ
 
-abbrev pub buffersOf : List Float → List ℕ → List ℕ → List ℕ → List ℕ → List ℕ → List ℕ → List Float → Buffers
+abbrev pub buffersOf : List ℕ → List ℕ → List ℕ → List ℕ → List ℕ → List ℕ → List ℕ → List ℕ → Buffers
 buffersOf d p o h w q i k = record { dist = d; preds = p; offsets = o; heads = h; weights = w; heap = q; places = i; keys = k }
 
 -- is each buffer as long as the part used? 4m + 1 + 2a entries of scratch in all
@@ -43,7 +41,7 @@ abbrev pub enough : Net FloatCost → Buffers → Bool
 enough g b = wholeNet g && longEnough (g .bound) (sizeOf g) b
 
 -- after 0 and 6: the needed part of each scratch slice is all zero and the rest as before; the answers are d and p
-abbrev pub left : Net FloatCost → Buffers → List Float → List ℕ → Buffers
+abbrev pub left : Net FloatCost → Buffers → List ℕ → List ℕ → Buffers
 left g b d p = record {
   dist = d;
   preds = p;
@@ -52,7 +50,7 @@ left g b d p = record {
   weights = filled (sizeOf g) 0 (b .weights);
   heap = filled (g .bound) 0 (b .heap);
   places = filled (g .bound) 0 (b .places);
-  keys = filled (g .bound) zero64 (b .keys);
+  keys = filled (g .bound) 0 (b .keys);
 }
 
 -- blank: none in every entry used, and entries past m as before
@@ -60,11 +58,11 @@ abbrev pub blank : Net FloatCost → Buffers → Buffers
 blank g b = left g b (filled (g .bound) noneF64 (b .dist)) (filled (g .bound) noneU32 (b .preds))
 
 -- what the pending bag ends in, from the source, with the cutoff, over the open arcs of the map
-pub record EndsIn (g : Net FloatCost) (s : ℕ) (k : Cutoff) (x : End Float) : Type 0 where
+pub record EndsIn (g : Net FloatCost) (s : ℕ) (k : Cutoff) (x : End ℕ) : Type 0 where
   pub run : Ends (search64 (past k) none s) (OpenArcOf g) (begin (search64 (past k) none s)) 0 x
 
 -- each index below m shows its distance and its predecessor, none where it has none; entries past m as before
-pub record Answers (m : ℕ) (x : End Float) (b e : Buffers) : Type 0 where
+pub record Answers (m : ℕ) (x : End ℕ) (b e : Buffers) : Type 0 where
   pub dist : Settled m (λ v d. d ≡ shown noneF64 (x .dist v)) (b .dist) (e .dist)
   pub preds : Settled m (λ v p. p ≡ shown noneU32 (x .pred v)) (b .preds) (e .preds)
 
@@ -77,6 +75,6 @@ pub data Promise (g : Net FloatCost) (s : ℕ) (k : Cutoff) (b e : Buffers) (no 
   -- 3: a source that is absent or at or above m; untouched
   absent : no ≡ 3 → enough g b ≡ true → insideNet g ≡ true → has g s ≡ false → e ≡ b → Promise g s k b e no
   -- 6: the pending bag meets a bad cost; blank
-  bad : no ≡ 6 → enough g b ≡ true → insideNet g ≡ true → has g s ≡ true → (x : End Float) → EndsIn g s k x → x .number ≡ 6 → e ≡ blank g b → Promise g s k b e no
+  bad : no ≡ 6 → enough g b ≡ true → insideNet g ≡ true → has g s ≡ true → (x : End ℕ) → EndsIn g s k x → x .number ≡ 6 → e ≡ blank g b → Promise g s k b e no
   -- 0: done
-  done : no ≡ 0 → enough g b ≡ true → insideNet g ≡ true → has g s ≡ true → (x : End Float) → EndsIn g s k x → x .number ≡ 0 → Answers (g .bound) x b e → e ≡ left g b (e .dist) (e .preds) → Promise g s k b e no
+  done : no ≡ 0 → enough g b ≡ true → insideNet g ≡ true → has g s ≡ true → (x : End ℕ) → EndsIn g s k x → x .number ≡ 0 → Answers (g .bound) x b e → e ≡ left g b (e .dist) (e .preds) → Promise g s k b e no

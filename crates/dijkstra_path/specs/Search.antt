@@ -2,9 +2,10 @@
 -- Assumes nothing.
 use mathlib.Core.Option.{Option, none, some}
 use Prim.Native.Nat.{ℕ}
-use lib.Ieee.{Float, binary64, eq}
+use lib.Dec.{eqb}
+use lib.Ieee.{Float, binary64}
 use Rattle.clean.specs.None.{noneF64}
-use Rattle.float.specs.Dist.{Dist, zero64, plus64}
+use Rattle.float.specs.Dist.{Dist64, zero64, plus64}
 use Rattle.float.specs.Cost.{badCost}
 use Rattle.float.specs.Cutoff.{past}
 use Rattle.float.specs.declared.Cutoff.the-variants.{At}
@@ -13,9 +14,9 @@ use Rattle.bag.specs.Order.{pick}
 use Rattle.turns.specs.Kind.{Kind}
 
 -- the distance that a lent entry stands for
-unfoldable pub read64 : Float → Option Float
-read64 x = pick (eq x noneF64) none (some x)
+unfoldable pub read64 : ℕ → Option ℕ
+read64 x = pick (eqb x noneF64) none (some x)
 
--- a search with a cutoff at a limit: its keys are the distances, its costs are patterns
-abbrev pub kind64 : Float → Kind Float ℕ
-kind64 limit = record { order = floats; zero = zero64; plus = plus64; key = λ d v. d; bad = badCost binary64; cut = past (At limit); blank = noneF64; read = read64; good = Dist binary64 }
+-- a search with a cutoff at a limit: its keys are the distances; they and the costs are patterns
+abbrev pub kind64 : Float → Kind ℕ ℕ
+kind64 limit = record { order = floats; zero = zero64; plus = plus64; key = λ d v. d; bad = badCost binary64; cut = past (At limit); blank = noneF64; read = read64; good = Dist64 }

@@ -1,9 +1,9 @@
-// The f64 search: the pending bag over a neighbour list of open arcs, with a cutoff.
+// The f64 search: the pending bag over a neighbour list of open arcs, with a cutoff. Distances and keys are lent as patterns, so that the promise
+// settles every bit of them; none is the pattern of -1.0.
 use table::Map;
 ghost use mathlib.Core.Path.{_≡_};
 ghost use mathlib.Core.Option.{none};
 ghost use Prim.Native.Nat.{ℕ, _+_, _≤_, _<_};
-ghost use lib.Ieee.{binary64, ofBits};
 ghost use lib.ListN.{length, set};
 ghost use Rattle.clean.specs.Fill.{filled};
 ghost use Rattle.clean.specs.None.{noneF64, noneU32};
@@ -31,7 +31,7 @@ pub struct Found {
 }
 
 // A distance is stored.
-fn store(dist: &mut [f64], v: usize, n: f64)
+fn store(dist: &mut [u64], v: usize, n: u64)
     requires { ⌜ v < length (now dist) ⌝ }
     ensures { λ r. ⌜ now (dist .exit) ≡ set (now (dist .entry)) v n ⌝ }
 {
@@ -50,15 +50,15 @@ fn name(preds: &mut [u32], v: usize, u: u32)
 fn look_arc(
     limit: f64,
     u: usize,
-    d: f64,
+    d: u64,
     v: usize,
     bits: u64,
     size: usize,
-    dist: &mut [f64],
+    dist: &mut [u64],
     preds: &mut [u32],
     heap: &mut [usize],
     places: &mut [usize],
-    keys: &mut [f64],
+    keys: &mut [u64],
 ) -> usize
     requires { ⌜ Safe (kind64 limit) u d v bits size (memoryOf (now dist) (now preds) (now heap) (now places) (now keys)) ⌝ }
     ensures { λ r. ⌜ Looked (kind64 limit) u d v bits size (memoryOf (now (dist .entry)) (now (preds .entry)) (now (heap .entry)) (now (places .entry)) (now (keys .entry))) (memoryOf (now (dist .exit)) (now (preds .exit)) (now (heap .exit)) (now (places .exit)) (now (keys .exit))) r ⌝ }
@@ -81,11 +81,11 @@ fn look_row(
     offsets: &[usize],
     heads: &[u16],
     weights: &[u64],
-    dist: &mut [f64],
+    dist: &mut [u64],
     preds: &mut [u32],
     heap: &mut [usize],
     places: &mut [usize],
-    keys: &mut [f64],
+    keys: &mut [u64],
 ) -> Turn
     requires { ⌜ Opens (kind64 limit) m (listsOf (now offsets) (now heads) (now weights)) u waiting (memoryOf (now dist) (now preds) (now heap) (now places) (now keys)) ⌝ }
     ensures { λ r. ⌜ RowDone (kind64 limit) m (listsOf (now (offsets .entry)) (now (heads .entry)) (now (weights .entry))) u (memoryOf (now (dist .entry)) (now (preds .entry)) (now (heap .entry)) (now (places .entry)) (now (keys .entry))) (memoryOf (now (dist .exit)) (now (preds .exit)) (now (heap .exit)) (now (places .exit)) (now (keys .exit))) (r .bad) (r .size) ⌝ }
@@ -116,19 +116,19 @@ fn look_row(
 fn start(
     limit: f64,
     source: usize,
-    dist: &mut [f64],
+    dist: &mut [u64],
     preds: &mut [u32],
     heap: &mut [usize],
     places: &mut [usize],
-    keys: &mut [f64],
+    keys: &mut [u64],
 ) -> usize
     requires { ⌜ Fresh (kind64 limit) (length (now places)) (memoryOf (now dist) (now preds) (now heap) (now places) (now keys)) ⌝ }
     requires { ⌜ source < length (now places) ⌝ }
     ensures { λ r. ⌜ Started (kind64 limit) source (memoryOf (now (dist .entry)) (now (preds .entry)) (now (heap .entry)) (now (places .entry)) (now (keys .entry))) (memoryOf (now (dist .exit)) (now (preds .exit)) (now (heap .exit)) (now (places .exit)) (now (keys .exit))) r ⌝ }
 {
-    store(dist, source, 0.0);
+    store(dist, source, 0);
     name(preds, source, clean::NONE_U32);
-    bag::floats::push_or_lower(heap, places, keys, 0, source, 0.0)
+    bag::floats::push_or_lower(heap, places, keys, 0, source, 0)
 }
 
 // The search from a source over the neighbour list of indices below m.
@@ -139,11 +139,11 @@ fn search_f64(
     offsets: &[usize],
     heads: &[u16],
     weights: &[u64],
-    dist: &mut [f64],
+    dist: &mut [u64],
     preds: &mut [u32],
     heap: &mut [usize],
     places: &mut [usize],
-    keys: &mut [f64],
+    keys: &mut [u64],
 ) -> Found
     requires { ⌜ Sound m (listsOf (now offsets) (now heads) (now weights)) ⌝ }
     requires { ⌜ source < m ⌝ }
@@ -187,14 +187,14 @@ fn search_f64(
 fn long_enough(
     m: usize,
     a: usize,
-    dist: &[f64],
+    dist: &[u64],
     preds: &[u32],
     offsets: &[usize],
     heads: &[u16],
     weights: &[u64],
     heap: &[usize],
     places: &[usize],
-    keys: &[f64],
+    keys: &[u64],
 ) -> bool
     requires { ⌜ m ≤ 1024 ⌝ }
     ensures { λ r. ⌜ r ≡ longEnough m a (buffersOf (now (dist .entry)) (now (preds .entry)) (now (offsets .entry)) (now (heads .entry)) (now (weights .entry)) (now (heap .entry)) (now (places .entry)) (now (keys .entry))) ⌝ }
@@ -235,14 +235,14 @@ fn refusal(
     bits: &[u64],
     opens: &[u8],
     source: usize,
-    dist: &[f64],
+    dist: &[u64],
     preds: &[u32],
     offsets: &[usize],
     heads: &[u16],
     weights: &[u64],
     heap: &[usize],
     places: &[usize],
-    keys: &[f64],
+    keys: &[u64],
 ) -> usize
     ensures { λ r. ⌜ r ≡ refusalNo (netOf64 (map .bound) (map .count) (map .directed) (now (marks .entry)) (now (from .entry)) (now (to .entry)) (now (bits .entry)) (now (opens .entry))) source (buffersOf (now (dist .entry)) (now (preds .entry)) (now (offsets .entry)) (now (heads .entry)) (now (weights .entry)) (now (heap .entry)) (now (places .entry)) (now (keys .entry))) ⌝ }
 {
@@ -274,7 +274,7 @@ fn refusal(
 }
 
 // In the part used nothing has a distance, and nothing is pending.
-fn prepare(m: usize, dist: &mut [f64], preds: &mut [u32], heap: &mut [usize], places: &mut [usize])
+fn prepare(m: usize, dist: &mut [u64], preds: &mut [u32], heap: &mut [usize], places: &mut [usize])
     requires { ⌜ (m ≤ length (now dist)) × (m ≤ length (now preds)) × (m ≤ length (now heap)) × (m ≤ length (now places)) ⌝ }
     ensures { λ _. ⌜ now (dist .exit) ≡ filled m noneF64 (now (dist .entry)) ⌝ }
     ensures { λ _. ⌜ now (preds .exit) ≡ filled m noneU32 (now (preds .entry)) ⌝ }
@@ -295,11 +295,11 @@ fn run(
     offsets: &[usize],
     heads: &[u16],
     weights: &[u64],
-    dist: &mut [f64],
+    dist: &mut [u64],
     preds: &mut [u32],
     heap: &mut [usize],
     places: &mut [usize],
-    keys: &mut [f64],
+    keys: &mut [u64],
 ) -> usize
     requires { ⌜ Sound m (listsOf (now offsets) (now heads) (now weights)) ⌝ }
     requires { ⌜ source < m ⌝ }
@@ -333,7 +333,7 @@ fn wipe(
     weights: &mut [u64],
     heap: &mut [usize],
     places: &mut [usize],
-    keys: &mut [f64],
+    keys: &mut [u64],
 )
     requires { ⌜ (m ≤ 1024) × (m + 1 ≤ length (now offsets)) × (a ≤ length (now heads)) × (a ≤ length (now weights)) × (m ≤ length (now heap)) × (m ≤ length (now places)) × (m ≤ length (now keys)) ⌝ }
     ensures { λ _. ⌜ now (offsets .exit) ≡ filled (m + 1) 0 (now (offsets .entry)) ⌝ }
@@ -341,18 +341,18 @@ fn wipe(
     ensures { λ _. ⌜ now (weights .exit) ≡ filled a 0 (now (weights .entry)) ⌝ }
     ensures { λ _. ⌜ now (heap .exit) ≡ filled m 0 (now (heap .entry)) ⌝ }
     ensures { λ _. ⌜ now (places .exit) ≡ filled m 0 (now (places .entry)) ⌝ }
-    ensures { λ _. ⌜ now (keys .exit) ≡ filled m (ofBits binary64 0) (now (keys .entry)) ⌝ }
+    ensures { λ _. ⌜ now (keys .exit) ≡ filled m 0 (now (keys .entry)) ⌝ }
 {
     clean::clear_usize(offsets, m + 1);
     clean::clear_u16(heads, a);
     clean::clear_u64(weights, a);
     clean::clear_usize(heap, m);
     clean::clear_usize(places, m);
-    clean::clear_f64(keys, m);
+    clean::clear_u64(keys, m);
 }
 
 // None in the part used of the answers.
-fn blank(m: usize, dist: &mut [f64], preds: &mut [u32])
+fn blank(m: usize, dist: &mut [u64], preds: &mut [u32])
     requires { ⌜ (m ≤ length (now dist)) × (m ≤ length (now preds)) ⌝ }
     ensures { λ _. ⌜ now (dist .exit) ≡ filled m noneF64 (now (dist .entry)) ⌝ }
     ensures { λ _. ⌜ now (preds .exit) ≡ filled m noneU32 (now (preds .entry)) ⌝ }
@@ -371,14 +371,14 @@ pub fn dijkstra_path_impl(
     opens: &[u8],
     source: usize,
     cutoff: float::Cutoff,
-    dist: &mut [f64],
+    dist: &mut [u64],
     preds: &mut [u32],
     offsets: &mut [usize],
     heads: &mut [u16],
     weights: &mut [u64],
     heap: &mut [usize],
     places: &mut [usize],
-    keys: &mut [f64],
+    keys: &mut [u64],
 ) -> usize
     ensures { λ r. ⌜ Promise (netOf64 (map .bound) (map .count) (map .directed) (now (marks .entry)) (now (from .entry)) (now (to .entry)) (now (bits .entry)) (now (opens .entry))) source cutoff (buffersOf (now (dist .entry)) (now (preds .entry)) (now (offsets .entry)) (now (heads .entry)) (now (weights .entry)) (now (heap .entry)) (now (places .entry)) (now (keys .entry))) (buffersOf (now (dist .exit)) (now (preds .exit)) (now (offsets .exit)) (now (heads .exit)) (now (weights .exit)) (now (heap .exit)) (now (places .exit)) (now (keys .exit))) r ⌝ }
 {
@@ -436,14 +436,14 @@ pub fn dijkstra_path_f64(
     opens: &[u8],
     source: usize,
     cutoff: float::Cutoff,
-    dist: &mut [f64],
+    dist: &mut [u64],
     preds: &mut [u32],
     offsets: &mut [usize],
     heads: &mut [u16],
     weights: &mut [u64],
     heap: &mut [usize],
     places: &mut [usize],
-    keys: &mut [f64],
+    keys: &mut [u64],
 ) -> usize
     ensures { λ r. ⌜ Promise (netOf64 (map .bound) (map .count) (map .directed) (now (marks .entry)) (now (from .entry)) (now (to .entry)) (now (bits .entry)) (now (opens .entry))) source cutoff (buffersOf (now (dist .entry)) (now (preds .entry)) (now (offsets .entry)) (now (heads .entry)) (now (weights .entry)) (now (heap .entry)) (now (places .entry)) (now (keys .entry))) (buffersOf (now (dist .exit)) (now (preds .exit)) (now (offsets .exit)) (now (heads .exit)) (now (weights .exit)) (now (heap .exit)) (now (places .exit)) (now (keys .exit))) r ⌝ }
 {

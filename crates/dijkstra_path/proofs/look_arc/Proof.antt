@@ -2,8 +2,8 @@
 -- Assumes nothing.
 use mathlib.Core.Path.{sym, ap, subst, _∙_}
 use mathlib.Core.Option.{some}
+use Prim.Native.Nat.{ℕ}
 use lib.ListN.{set}
-use lib.Ieee.{Float}
 use borrow.Author.Tests.{not-true, not-false}
 use Rattle.bag.specs.Floats.{floats}
 use Rattle.bag.specs.Content.{contentOf}
@@ -92,7 +92,7 @@ returns-2 c =
     (c .before .before .before .before .before .before .before .before .before .before .before .before .before .before .before .before .store .ensures ∙ ap (set (s .args .dist .now) (s .args .v)) (t .plus .ensures))
     (c .before .before .before .before .before .before .before .before .before .before .before .before .name .ensures)
     (p .0)
-    (p .1 ∙ ap (λ (z : Float). set (contentOf (s .args .places .now) (s .args .keys .now)) (s .args .v) (some z)) (t .plus .ensures))
+    (p .1 ∙ ap (λ (z : ℕ). set (contentOf (s .args .places .now) (s .args .keys .now)) (s .args .v) (some z)) (t .plus .ensures))
 
 pub look-arc-spec : {M : Type 1} → statement M
 look-arc-spec =

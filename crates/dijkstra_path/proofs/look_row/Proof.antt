@@ -5,7 +5,6 @@ use mathlib.Core.Path.{_≡_, refl, sym, _∙_}
 use Prim.Native.Nat.{_+_, _-_}
 use native.Mathlib.Omega.{arith}
 use lib.ListN.{getD}
-use lib.Ieee.{nan}
 use Rattle.clean.specs.None.{noneF64}
 use Rattle.rows.specs.Rows.{listsOf}
 use Rattle.turns.specs.Memory.{memoryOf}
@@ -30,8 +29,8 @@ abbrev μ-loop : tie.MeasureT-loop
     end - i
 
 -- the entry read is u's, whatever stands for a missing one
-entry : (s : lts.Start (bad-cost-reads.Asked, bad-cost-reads.Learnt, look-arc-reads.Asked, look-arc-reads.Learnt) reads.Pre reads.Post Inv-loop μ-loop) → getD (s .args .dist .now) (s .args .u) nan ≡ getD (s .args .dist .now) (s .args .u) noneF64
-entry s = no-default (s .args .dist .now) (s .args .u) nan noneF64 (omega (arith, s .pre .row, s .pre .good .longD))
+entry : (s : lts.Start (bad-cost-reads.Asked, bad-cost-reads.Learnt, look-arc-reads.Asked, look-arc-reads.Learnt) reads.Pre reads.Post Inv-loop μ-loop) → getD (s .args .dist .now) (s .args .u) 0 ≡ getD (s .args .dist .now) (s .args .u) noneF64
+entry s = no-default (s .args .dist .now) (s .args .u) 0 noneF64 (omega (arith, s .pre .row, s .pre .good .longD))
 
 mul-d : tie.Need-mul-d Inv-loop μ-loop
 mul-d c = search needs

@@ -7,7 +7,6 @@ use mathlib.Core.Path.{ap}
 use native.Mathlib.Omega.{arith}
 use lib.ListN.{length, length-replicate}
 use Rattle.clean.specs.None.{noneF64, noneU32}
-use Rattle.float.specs.Dist.{zero64}
 use Rattle.float.proofs.Cost.{zero-dist}
 use Rattle.turns.proofs.Cells.{empty-bag, empty-lower}
 
@@ -18,7 +17,6 @@ name-requires : tie.Need-name-requires
 name-requires c κs = let s = c .before .before .before .before .before .before .before .before .before .before in omega (arith, s .pre .1, ap length (s .pre .0 .preds), length-replicate (length (s .args .places .now)) noneU32)
 
 push-or-lower-requires : tie.Need-push-or-lower-requires
-unfolding zero64
 push-or-lower-requires c κs = let s = c .before .before .before .before .before .before .before .before .before .before .before .before .before .before .before .before in (empty-bag (s .pre .0), (s .pre .1, (empty-lower (s .pre .0) (s .args .source) _, zero-dist)))
 
 same-length : tie.Need-same-length
@@ -37,7 +35,6 @@ same-length-5 : tie.Need-same-length-5
 same-length-5 c = search needs
 
 returns : tie.Need-returns
-unfolding zero64
 returns c = record { dist = c .before .before .before .before .before .before .before .before .before .before .before .before .before .before .before .before .store .ensures; preds = c .before .before .before .before .before .before .before .before .before .before .before .before .name .ensures; bag = c .before .before .before .before .before .before .push-or-lower .ensures .0; content = c .before .before .before .before .before .before .push-or-lower .ensures .1 }
 
 pub start-spec : {M : Type 1} → statement M

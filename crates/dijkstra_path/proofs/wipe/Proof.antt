@@ -22,8 +22,8 @@ clear-usize-requires-2 c κs = search needs
 clear-usize-requires-3 : tie.Need-clear-usize-requires-3
 clear-usize-requires-3 c κs = search needs
 
-clear-f64-requires : tie.Need-clear-f64-requires
-clear-f64-requires c κs = search needs
+clear-u64-requires-2 : tie.Need-clear-u64-requires-2
+clear-u64-requires-2 c κs = search needs
 
 same-length : tie.Need-same-length
 same-length c = search needs
@@ -44,7 +44,7 @@ same-length-6 : tie.Need-same-length-6
 same-length-6 c = search needs
 
 returns : tie.Need-returns
-returns c = (c .before .before .before .before .before .before .before .before .before .before .before .before .before .before .before .before .before .before .before .before .before .before .clear-usize .ensures, (c .before .before .before .before .before .before .before .before .before .before .before .before .before .before .before .before .before .before .clear-u16 .ensures, (c .before .before .before .before .before .before .before .before .before .before .before .before .before .before .clear-u64 .ensures, (c .before .before .before .before .before .before .before .before .before .before .clear-usize2 .ensures, (c .before .before .before .before .before .before .clear-usize3 .ensures, c .before .before .clear-f64 .ensures)))))
+returns c = (c .before .before .before .before .before .before .before .before .before .before .before .before .before .before .before .before .before .before .before .before .before .before .clear-usize .ensures, (c .before .before .before .before .before .before .before .before .before .before .before .before .before .before .before .before .before .before .clear-u16 .ensures, (c .before .before .before .before .before .before .before .before .before .before .before .before .before .before .clear-u64 .ensures, (c .before .before .before .before .before .before .before .before .before .before .clear-usize2 .ensures, (c .before .before .before .before .before .before .clear-usize3 .ensures, c .before .before .clear-u642 .ensures)))))
 
 pub wipe-spec : {M : Type 1} → statement M
 wipe-spec =
@@ -56,7 +56,7 @@ wipe-spec =
     clear-u64-requires
     clear-usize-requires-2
     clear-usize-requires-3
-    clear-f64-requires
+    clear-u64-requires-2
     same-length
     same-length-2
     same-length-3
