@@ -8,7 +8,6 @@ use native.Mathlib.Omega.{arith}
 use borrow.Author.Tests.{eq-eqb, ne-eqb}
 use lib.IntN.{ℤ}
 use lib.Signed.{ltZ}
-use lib.Ieee.{Float, binary64, toBits, eq}
 use lib.ListN.{length, take}
 use Rattle.clean.specs.None.{noneI64, noneF64}
 use Rattle.lines.specs.Text.{Printed, spaceText, noneText, costText, pathText, decimalText, signedText, hexText}
@@ -37,13 +36,13 @@ unfolding indexText
 index-none k h = simp (eq-eqb k 4294967295 h)
 
 -- an f64 distance, and none
-pub bits-some : (x : Float) → eq x noneF64 ≡ false → bitsText x ≡ hexText (toBits binary64 x)
+pub bits-some : (x : ℕ) → (x ≡ noneF64 → ⊥) → bitsText x ≡ hexText x
 unfolding bitsText
-bits-some x h = simp (h)
+bits-some x h = simp (ne-eqb x noneF64 h)
 
-pub bits-none : (x : Float) → eq x noneF64 ≡ true → bitsText x ≡ noneText
+pub bits-none : (x : ℕ) → x ≡ noneF64 → bitsText x ≡ noneText
 unfolding bitsText
-bits-none x h = simp (h)
+bits-none x h = simp (eq-eqb x noneF64 h)
 
 -- a path, and none
 pub path-some : (c : ℤ) (n : ℕ) (path : List ℕ) → ltZ noneI64 c ≡ true → pathLines c n path ≡ line costText (signedText c ∷ []) ++ line pathText (map indexText (take n path))

@@ -4,7 +4,6 @@ use mathlib.Core.List.{List, [], _∷_, _++_}
 use Prim.Native.Nat.{ℕ, suc, _+_, _≤_}
 use native.Mathlib.Omega.{arith}
 use lib.Dec.{eqb}
-use lib.Ieee.{Float, nan, binary64, toBits, eq}
 use lib.IntN.{ℤ, pos, negsuc}
 use lib.Signed.{ltZ}
 use lib.ListN.{length, getD, length-append}
@@ -39,14 +38,14 @@ pub cost-line-width : (z : ℤ) → length (line costText (signedText z ∷ []))
 cost-line-width z = omega (arith, length-append (signedText z) newlineText, signed-width z)
 
 -- an f64 distance: 16 digits
-pub bits-width : (x : Float) → length (bitsText x) ≤ 16
+pub bits-width : (x : ℕ) → length (bitsText x) ≤ 16
 unfolding bitsText hexText
-bits-width x = by-test (λ (t : List ℕ). length t ≤ 16) (eq x noneF64) _ _ (λ _. omega arith) (λ _. omega (arith, hex-length 16 (toBits binary64 x)))
+bits-width x = by-test (λ (t : List ℕ). length t ≤ 16) (eqb x noneF64) _ _ (λ _. omega arith) (λ _. omega (arith, hex-length 16 x))
 
 -- a line of an index, an f64 distance and a predecessor
-pub tree-line-width : (dist : List Float) (preds : List ℕ) (i : ℕ) → length (treeLine dist preds i) ≤ 59
+pub tree-line-width : (dist preds : List ℕ) (i : ℕ) → length (treeLine dist preds i) ≤ 59
 tree-line-width dist preds i =
-    let x = field (bitsText (getD dist i nan)) in
+    let x = field (bitsText (getD dist i 0)) in
     let k = field (indexText (getD preds i 0)) in
     omega (
       arith,
@@ -54,6 +53,6 @@ tree-line-width dist preds i =
       length-append (decimalText i ++ x) k,
       length-append (decimalText i) x,
       decimal-text-length i,
-      bits-width (getD dist i nan),
+      bits-width (getD dist i 0),
       index-width (getD preds i 0),
     )

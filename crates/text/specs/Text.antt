@@ -5,7 +5,6 @@ use mathlib.Core.Bool.{Bool, cond}
 use mathlib.Core.List.{List, [], _∷_, _++_, map}
 use Prim.Native.Nat.{ℕ, zero, suc, _*_}
 use lib.Dec.{eqb}
-use lib.Ieee.{Float, nan, binary64, toBits, eq}
 use lib.IntN.{ℤ, pos}
 use lib.Signed.{ltZ}
 use lib.ListN.{length, getD, take, drop}
@@ -21,9 +20,9 @@ distanceText z = cond (ltZ noneI64 z) (signedText z) noneText
 unfoldable pub indexText : ℕ → List ℕ
 indexText k = cond (eqb k noneU32) noneText (decimalText k)
 
--- an f64 distance
-unfoldable pub bitsText : Float → List ℕ
-bitsText x = cond (eq x noneF64) noneText (hexText (toBits binary64 x))
+-- an f64 distance, by its pattern
+unfoldable pub bitsText : ℕ → List ℕ
+bitsText x = cond (eqb x noneF64) noneText (hexText x)
 
 -- a field after the first: a space, and what it says
 abbrev pub field : List ℕ → List ℕ
@@ -73,11 +72,11 @@ abbrev pub rowLines : {A : Type 0} → (A → List ℕ) → (ℕ → Bool) → �
 rowLines show has m matrix = eachIndex has (λ i. rowLine show (width has m) matrix (width has i) i) m
 
 -- engine 7: `index bits predecessor`
-abbrev pub treeLine : List Float → List ℕ → ℕ → List ℕ
-treeLine dist preds i = line (decimalText i) (bitsText (getD dist i nan) ∷ indexText (getD preds i 0) ∷ [])
+abbrev pub treeLine : List ℕ → List ℕ → ℕ → List ℕ
+treeLine dist preds i = line (decimalText i) (bitsText (getD dist i 0) ∷ indexText (getD preds i 0) ∷ [])
 
 -- the lines of engine 7
-abbrev pub treeLines : (ℕ → Bool) → ℕ → List Float → List ℕ → List ℕ
+abbrev pub treeLines : (ℕ → Bool) → ℕ → List ℕ → List ℕ → List ℕ
 treeLines has m dist preds = eachIndex has (treeLine dist preds) m
 
 -- an engine's refusal

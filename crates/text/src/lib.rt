@@ -1,14 +1,10 @@
 // The text of an answer, put into a lent buffer: one function for each kind of line.
-ghost use mathlib.Core.Bool.{false};
-ghost use mathlib.Core.Path.{_≡_};
 ghost use mathlib.Core.List.{[], _∷_, map};
 ghost use Prim.Native.Nat.{ℕ, _+_, _*_, _≤_, _<_};
-ghost use lib.Ieee.{nan, isNan};
 ghost use lib.IntN.{pos};
 ghost use lib.ListN.{length, getD, take, drop};
 ghost use Rattle.table.specs.Links.{present};
 ghost use Rattle.lines.specs.Text.{Printed, decimalText, signedText, endText, costText, pathText};
-ghost use Rattle.text.specs.Asked.{NoNan};
 ghost use Rattle.text.specs.Text.{distanceText, indexText, bitsText, field, entries, line, distanceLine, distanceLines, pathLines, width, rowLine, rowLines, treeLine, treeLines, refusedLine, engineLine, badText};
 
 // Puts a space and a number.
@@ -249,22 +245,22 @@ pub fn print_path(out: &mut [u8], at: usize, cost: i64, path: &[u32], n: usize) 
     print_nodes(out, next, path, n)
 }
 
-// Puts a space and the bits of the f64 distance at place i, or none.
-fn put_bits(out: &mut [u8], at: usize, dist: &[f64], i: usize) -> usize
-    requires { ⌜ (at + 17 ≤ length (now out)) × (i < length (now dist)) × (isNan (getD (now dist) i nan) ≡ false) ⌝ }
-    ensures { λ r. ⌜ Printed (now (out .entry)) at (field (bitsText (getD (now (dist .entry)) i nan))) (now (out .exit)) r ⌝ }
+// Puts a space and the pattern of the f64 distance at place i, or none.
+fn put_bits(out: &mut [u8], at: usize, dist: &[u64], i: usize) -> usize
+    requires { ⌜ (at + 17 ≤ length (now out)) × (i < length (now dist)) ⌝ }
+    ensures { λ r. ⌜ Printed (now (out .entry)) at (field (bitsText (getD (now (dist .entry)) i 0))) (now (out .exit)) r ⌝ }
 {
     let d = dist[i];
     let next = lines::put_space(out, at);
     if d == clean::NONE_F64 {
         return lines::put_bytes(out, next, &lines::NONE);
     }
-    lines::put_hex(out, next, f64::to_bits(d))
+    lines::put_hex(out, next, d)
 }
 
 // Puts the line `index bits predecessor`.
-fn print_reached(out: &mut [u8], at: usize, dist: &[f64], preds: &[u32], i: usize) -> usize
-    requires { ⌜ (at + 59 ≤ length (now out)) × (i < length (now dist)) × (isNan (getD (now dist) i nan) ≡ false) × (i < length (now preds)) ⌝ }
+fn print_reached(out: &mut [u8], at: usize, dist: &[u64], preds: &[u32], i: usize) -> usize
+    requires { ⌜ (at + 59 ≤ length (now out)) × (i < length (now dist)) × (i < length (now preds)) ⌝ }
     ensures { λ r. ⌜ Printed (now (out .entry)) at (treeLine (now (dist .entry)) (now (preds .entry)) i) (now (out .exit)) r ⌝ }
 {
     let index = lines::put_decimal(out, at, i as u64);
@@ -279,10 +275,10 @@ pub fn print_tree(
     at: usize,
     bound: usize,
     marks: &[u8],
-    dist: &[f64],
+    dist: &[u64],
     preds: &[u32],
 ) -> usize
-    requires { ⌜ (bound ≤ length (now marks)) × (bound ≤ length (now dist)) × (bound ≤ length (now preds)) × (at + bound * 59 ≤ length (now out)) × NoNan bound (now dist) ⌝ }
+    requires { ⌜ (bound ≤ length (now marks)) × (bound ≤ length (now dist)) × (bound ≤ length (now preds)) × (at + bound * 59 ≤ length (now out)) ⌝ }
     ensures { λ r. ⌜ Printed (now (out .entry)) at (treeLines (present bound (now (marks .entry))) bound (now (dist .entry)) (now (preds .entry))) (now (out .exit)) r ⌝ }
 {
     let mut next = at;

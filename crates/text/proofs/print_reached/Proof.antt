@@ -4,7 +4,6 @@ use borrow.Author.Needs.{needs}
 use Rattle.text.proofs.print_reached.Statement.{statement}
 use Rattle.text.proofs.print_reached.Tie as tie
 use native.Mathlib.Omega.{arith}
-use lib.Ieee.{nan}
 use lib.ListN.{getD}
 use Rattle.lines.proofs.Digits.{decimal-text-length}
 use Rattle.lines.proofs.Pages.{page-start, page-more}
@@ -16,26 +15,26 @@ put-decimal-requires c κs = omega (arith, decimal-text-length (c .before .befor
 put-bits-requires : tie.Need-put-bits-requires
 put-bits-requires c κs =
     let z = c .before .before .before .before .before .before .before .before in
-    (omega (arith, decimal-text-length (z .args .i), c .before .before .before .put-decimal .ensures .ends, c .before .before .before .put-decimal .kept .0, z .pre .0), z .pre .1, z .pre .2)
+    (omega (arith, decimal-text-length (z .args .i), c .before .before .before .put-decimal .ensures .ends, c .before .before .before .put-decimal .kept .0, z .pre .0), z .pre .1)
 
 put-index-requires : tie.Need-put-index-requires
 put-index-requires c κs =
     let z = c .before .before .before .before .before .before .before .before .before .before .before .before .before in
     let v = z .args in
-    omega (arith, decimal-text-length (v .i), c .before .before .before .before .before .before .before .before .put-decimal .ensures .ends, c .before .before .before .before .before .before .before .before .put-decimal .kept .0, bits-width (getD (v .dist .now) (v .i) nan), c .before .before .before .before .put-bits .ensures .ends, c .before .before .before .before .put-bits .kept .0, z .pre .0)
+    omega (arith, decimal-text-length (v .i), c .before .before .before .before .before .before .before .before .put-decimal .ensures .ends, c .before .before .before .before .before .before .before .before .put-decimal .kept .0, bits-width (getD (v .dist .now) (v .i) 0), c .before .before .before .before .put-bits .ensures .ends, c .before .before .before .before .put-bits .kept .0, z .pre .0)
 
 put-newline-requires : tie.Need-put-newline-requires
 put-newline-requires c κs =
     let z = c .before .before .before .before .before .before .before .before .before .before .before .before .before .before .before .before .before in
     let v = z .args in
-    omega (arith, decimal-text-length (v .i), c .before .before .before .before .before .before .before .before .before .before .before .before .put-decimal .ensures .ends, c .before .before .before .before .before .before .before .before .before .before .before .before .put-decimal .kept .0, bits-width (getD (v .dist .now) (v .i) nan), c .before .before .before .before .before .before .before .before .put-bits .ensures .ends, c .before .before .before .before .before .before .before .before .put-bits .kept .0, index-width (getD (v .preds .now) (v .i) 0), c .before .before .before .put-index .ensures .ends, c .before .before .before .put-index .kept .0, z .pre .0)
+    omega (arith, decimal-text-length (v .i), c .before .before .before .before .before .before .before .before .before .before .before .before .put-decimal .ensures .ends, c .before .before .before .before .before .before .before .before .before .before .before .before .put-decimal .kept .0, bits-width (getD (v .dist .now) (v .i) 0), c .before .before .before .before .before .before .before .before .put-bits .ensures .ends, c .before .before .before .before .before .before .before .before .put-bits .kept .0, index-width (getD (v .preds .now) (v .i) 0), c .before .before .before .put-index .ensures .ends, c .before .before .before .put-index .kept .0, z .pre .0)
 
 returns : tie.Need-returns
 returns c =
     let z = c .before .before .before .before .before .before .before .before .before .before .before .before .before .before .before .before .before .before .before .before in
     let v = z .args in
     let p1 = page-more (page-start (v .out .now) (v .at) (omega (arith, z .pre .0))) 20 (decimal-text-length (v .i)) (omega (arith, z .pre .0)) (c .before .before .before .before .before .before .before .before .before .before .before .before .before .before .before .put-decimal .ensures) in
-    let p2 = page-more p1 17 (omega (arith, bits-width (getD (v .dist .now) (v .i) nan))) (omega (arith, z .pre .0)) (c .before .before .before .before .before .before .before .before .before .before .before .put-bits .ensures) in
+    let p2 = page-more p1 17 (omega (arith, bits-width (getD (v .dist .now) (v .i) 0))) (omega (arith, z .pre .0)) (c .before .before .before .before .before .before .before .before .before .before .before .put-bits .ensures) in
     let p3 = page-more p2 21 (omega (arith, index-width (getD (v .preds .now) (v .i) 0))) (omega (arith, z .pre .0)) (c .before .before .before .before .before .before .put-index .ensures) in
     page-more p3 1 (omega arith) (omega (arith, z .pre .0)) (c .before .before .put-newline .ensures) .printed
 

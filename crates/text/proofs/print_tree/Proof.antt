@@ -28,7 +28,7 @@ print-reached-requires : tie.Need-print-reached-requires Inv-loop μ-loop
 print-reached-requires c κs =
     let z = c .before .before .before .before .before .before .before .before .before in
     let h = c .before .before .before .loop-test .taken in
-    (listing-room (c .before .before .before .before .loop .inv) h, omega (arith, z .pre .1, h), z .pre .4 (c .before .before .before .before .loop .i) h, omega (arith, z .pre .2, h))
+    (listing-room (c .before .before .before .before .loop .inv) h, omega (arith, z .pre .1, h), omega (arith, z .pre .2, h))
 
 loop-less : tie.Need-loop-less Inv-loop μ-loop
 loop-less c = omega (arith, c .before .before .loop-test .taken)

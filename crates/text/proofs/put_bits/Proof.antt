@@ -4,12 +4,8 @@ use borrow.Author.Needs.{needs}
 use Rattle.text.proofs.put_bits.Statement.{statement}
 use Rattle.text.proofs.put_bits.Tie as tie
 use native.Mathlib.Omega.{arith}
-use lib.Ieee.{nan}
 use lib.ListN.{getD}
 use Rattle.text.proofs.Fields.{spaced, bits-some, bits-none}
-use mathlib.Core.Path.{sym, subst}
-use mathlib.Core.Bool.{Bool, not}
-use lib.Dec.{T}
 
 put-bytes-requires : tie.Need-put-bytes-requires
 put-bytes-requires c κs = omega (arith, c .before .before .before .before .before .put-space .ensures .ends, c .before .before .before .before .before .put-space .kept .0, c .before .before .before .before .before .before .before .before .before .before .pre .0)
@@ -18,10 +14,7 @@ returns : tie.Need-returns
 returns c =
     let z = c .before .before .before .before .before .before .before .before .before .before .before .before .before in
     let v = z .args in
-    spaced (omega (arith, z .pre .0)) (c .before .before .before .before .before .before .before .before .put-space .ensures) (bits-none (getD (v .dist .now) (v .i) nan) (c .before .before .before .before .before .if1 .taken)) (c .before .before .put-bytes .ensures)
-
-float-to-bits-put-hex : tie.Need-float-to-bits-put-hex
-float-to-bits-put-hex c = subst (λ (b : Bool). T (not b)) (sym (c .before .before .before .before .before .before .before .before .before .pre .2)) tt
+    spaced (omega (arith, z .pre .0)) (c .before .before .before .before .before .before .before .before .put-space .ensures) (bits-none (getD (v .dist .now) (v .i) 0) (c .before .before .before .before .before .if1 .taken)) (c .before .before .put-bytes .ensures)
 
 put-hex-requires : tie.Need-put-hex-requires
 put-hex-requires c κs = omega (arith, c .before .before .before .before .put-space .ensures .ends, c .before .before .before .before .put-space .kept .0, c .before .before .before .before .before .before .before .before .before .pre .0)
@@ -30,10 +23,10 @@ returns-2 : tie.Need-returns-2
 returns-2 c =
     let z = c .before .before .before .before .before .before .before .before .before .before .before .before in
     let v = z .args in
-    spaced (omega (arith, z .pre .0)) (c .before .before .before .before .before .before .before .put-space .ensures) (bits-some (getD (v .dist .now) (v .i) nan) (c .before .before .before .before .if1 .left)) (c .before .before .put-hex .ensures)
+    spaced (omega (arith, z .pre .0)) (c .before .before .before .before .before .before .before .put-space .ensures) (bits-some (getD (v .dist .now) (v .i) 0) (c .before .before .before .before .if1 .left)) (c .before .before .put-hex .ensures)
 
 pub put-bits-spec : {M : Type 1} → statement M
 put-bits-spec =
     tie.close
     (tie.spec (λ c. search needs) (λ c. search needs) (λ c κs. search needs) (λ c. search needs) put-bytes-requires (λ c. search needs) returns
-    float-to-bits-put-hex put-hex-requires (λ c. search needs) returns-2)
+    put-hex-requires (λ c. search needs) returns-2)
