@@ -303,10 +303,6 @@ module _ {C : Type 0} (m n room : ℕ) (marks xs ys : List ℕ) (cs : List C) (h
           let f = whole m n room marks (whole-of-no m n room marks (ends xs ys) z) .few in
           sym (place-inside d m room marks u v n (ends xs ys) z q) ∙ (ap (λ (k : ℕ). placeAt room n k) (place-ends d u v xs ys cs n (omega arith)) ∙ place-inside d m room marks u v n (zip3 xs ys cs) (sym no-ends ∙ z) q)
 
--- the check by a room that was computed
-pub no-links : {C : Type 0} (m n : ℕ) (marks xs ys : List ℕ) (cs : List C) {most room : ℕ} → room ≤ length cs → most ≡ room → tableNo m n most marks (ends xs ys) ≡ tableNo m n room marks (zip3 xs ys cs)
-no-links m n marks xs ys cs {most} {room} h e = ap (λ (k : ℕ). tableNo m n k marks (ends xs ys)) e ∙ no-ends m n room marks xs ys cs h
-
 -- the ways in which a search ends: refused with k, or done at the place of the link, or at the end
 module _ {C : Type 0} (d : Bool) (m room : ℕ) (marks : List ℕ) (u v n : ℕ) (ls : List (Link C)) where
   -- why the number is k: 1 or 2 for the table, 2 for the record, 8 for a new link without room

@@ -3,7 +3,7 @@ ghost use mathlib.Core.Path.{_≡_};
 ghost use Prim.Native.Nat.{ℕ, _+_, _-_, _≤_, _<_};
 ghost use lib.ListN.{length, getD, take};
 ghost use Rattle.table.specs.Links.{present, presentBoth, lentWhole, allInside, ends, tableNo, samePair, joinsEnds, FirstPlace, placeNow, placing, linkOf};
-ghost use Rattle.table.specs.Lent.{least, roomEnds, roomInts, roomFloats, intsNo, floatsNo, written, intsNow, putInts, floatsNow, rawCost, putFloats};
+ghost use Rattle.table.specs.Lent.{least, roomEnds, roomInts, roomFloats, written, intsNow, putInts, floatsNow, rawCost, putFloats};
 
 // The scalars of a lent map.
 pub struct Map {
@@ -175,29 +175,6 @@ pub fn check_ends(map: Map, room: usize, marks: &[u8], from: &[u16], to: &[u16])
         return 2;
     }
     0
-}
-
-// Refusals 1 and 2 of an integer map, else 0.
-pub fn check_table(map: Map, marks: &[u8], from: &[u16], to: &[u16], costs: &[i32]) -> usize
-    ensures { λ r. ⌜ r ≡ intsNo (map .bound) (map .count) (now (marks .entry)) (now (from .entry)) (now (to .entry)) (now (costs .entry)) ⌝ }
-{
-    let most = room(from, to, costs);
-    check_ends(map, most, marks, from, to)
-}
-
-// Refusals 1 and 2 of an f64 map, else 0.
-pub fn check_table_f64(
-    map: Map,
-    marks: &[u8],
-    from: &[u16],
-    to: &[u16],
-    bits: &[u64],
-    opens: &[u8],
-) -> usize
-    ensures { λ r. ⌜ r ≡ floatsNo (map .bound) (map .count) (now (marks .entry)) (now (from .entry)) (now (to .entry)) (now (bits .entry)) (now (opens .entry)) ⌝ }
-{
-    let most = room_f64(from, to, bits, opens);
-    check_ends(map, most, marks, from, to)
 }
 
 // Is x, y the pair u, v?
