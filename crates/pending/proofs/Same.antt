@@ -4,7 +4,7 @@
 -- the same turn follows on both.
 use mathlib.Core.Path.{_≡_, refl, sym, ap, _∙_, subst}
 use mathlib.Core.Bool.{Bool, true, false, true≢false}
-use mathlib.Core.Logic.{_⊎_, inl, inr}
+use mathlib.Core.Logic.{_⊎_, inl, inr, _↔_}
 use mathlib.Core.List.{List, [], _∷_, List·Memᴰ, List·Memᴰ·head, List·Memᴰ·tail, List·Memᴰ·cases-cons, List·Memᴰ·not-nil, Memᴰ·cast}
 use mathlib.Core.Option.{Option, none, some}
 use Prim.Native.Nat.{ℕ, zero, suc, _<_}
@@ -383,6 +383,13 @@ module _ {K C : Type 0} (S : Setting K C) {ok : K → Type 0} (L : Laws S ok) wh
   -- the two bags end alike
   pub same-ends : (arcs : ℕ → List (ℕ × C)) (e : End K) → (Lit.Ends S arcs (Lit.start S) e → Ends S (ArcOf arcs) (begin S) 0 e) × (Ends S (ArcOf arcs) (begin S) 0 e → Lit.Ends S arcs (Lit.start S) e)
   same-ends arcs e = (λ r. to-one-place arcs start-sim r, λ r. to-literal arcs (Lit.start S) start-sim r)
+
+  -- a search over any arcs ends as 01's bag over rows whose members are these arcs
+  pub literal-ends : (A : ℕ → ℕ → C → Type 0) (rows : ℕ → List (ℕ × C)) → ((u v : ℕ) (c : C) → A u v c ↔ ArcOf rows u v c) → (e : End K) → Ends S A (begin S) 0 e ↔ Lit.Ends S rows (Lit.start S) e
+  literal-ends A rows same e = (
+    λ r. same-ends rows e .1 (ends-map S A (ArcOf rows) (λ u v c. same u v c .0) (λ u v c. same u v c .1) r),
+    λ r. ends-map S (ArcOf rows) A (λ u v c. same u v c .1) (λ u v c. same u v c .0) (same-ends rows e .0 r),
+  )
 
   -- 01's bag: neither the order of a row's arcs nor how often one stands there matters
   pub order-free : (arcs arcs' : ℕ → List (ℕ × C)) → ((u v : ℕ) (c : C) → ArcOf arcs u v c → ArcOf arcs' u v c) → ((u v : ℕ) (c : C) → ArcOf arcs' u v c → ArcOf arcs u v c)

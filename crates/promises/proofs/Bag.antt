@@ -19,18 +19,19 @@ use Rattle.float.specs.Cutoff.{past}
 use Rattle.float.specs.declared.Cutoff.{Cutoff}
 use Rattle.table.specs.Lent.{FloatCost}
 use Rattle.net.specs.Net.{Net, linksOf, ArcOf, OpenArcOf, insideNet, has, sizeOf}
-use Rattle.rows.specs.Rows.{openLinks}
+use Rattle.rows.specs.Rows.{openLinks, rowsOf, openRows}
 use Rattle.rows.proofs.Maps.{open-arcs}
+use Rattle.rows.proofs.Members.{arcs-rows}
 use Rattle.pending.specs.Setting.{End}
 use Rattle.pending.specs.Setting as Set
 use Rattle.pending.specs.Literal as Lit
 use Rattle.pending.specs.OnePlace.{begin, Ends}
 use Rattle.pending.specs.Floats.{search64}
 use Rattle.pending.proofs.Floats.{laws64}
+use Rattle.pending.proofs.Same.{literal-ends}
 use Rattle.a_star.specs.Promise as star
-use Rattle.a_star.proofs.Literal.{arcs-rows, literal-ends, literal-exactly}
+use Rattle.a_star.proofs.Literal.{literal-exactly}
 use Rattle.dijkstra_path.specs.Promise as search
-use Rattle.promises.specs.Bag.{rowsOf, openRows}
 
 -- ---- `a_star`
 pub a-star-bag : {g : Net ℤ} {q : star.Question} {b e : star.Buffers} {r : star.Answer} → star.Promise g q b e r → star.Fine g q b →

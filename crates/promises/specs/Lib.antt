@@ -2,4 +2,3 @@ pub mod Maps
 pub mod Distance
 pub mod Exact
 pub mod Demand1
-pub mod Bag
