@@ -18,7 +18,6 @@ use Rattle.whole.specs.Zed.{_⊕_, zed}
 use Rattle.whole.proofs.Cases.{clash}
 use Rattle.clean.specs.None.{noneI64, noneU32, shown}
 use Rattle.clean.specs.Fill.{filled}
-use Rattle.clean.proofs.Filled.{filled-same}
 use Rattle.walks.specs.Walk.{Walk, stay, step}
 use Rattle.walks.specs.Chain.{Chain, passed, hops}
 use Rattle.walks.proofs.Chain.{hops-few}
@@ -36,11 +35,9 @@ use Rattle.net.specs.Net.{Net, netOf, ArcOf, has, nodesOf, width, arcRoom}
 use Rattle.net.proofs.Nodes.{has-below, width-most, present-in}
 use Rattle.net.proofs.Bounds.{whole-ints}
 use Rattle.net.proofs.Same.{arc-has, arc-below}
-use Rattle.rows.specs.Rows.{Lists, listsOf, arcsInts, Ready, Room, Rows, Small}
+use Rattle.rows.specs.Rows.{Lists, arcsInts, Ready, Room, Rows, Small}
 use Rattle.rows.specs.RowArc.{RowArc}
-use Rattle.rows.specs.Kept.{KeptLists}
-use Rattle.rows.specs.Scratch.{wiped}
-use Rattle.rows.proofs.Kept.{needs-kept}
+use Rattle.rows.proofs.Kept.{needs-kept, wiped-rows}
 use Rattle.rows.proofs.Maps.{ready-ints, net-room, arcs-are, net-sound, net-kept, row-small}
 use Rattle.turns.specs.Memory.{Memory, Shows}
 use Rattle.search.specs.Search.{keyOf, targetOf, askedOf, settingOf, Fair, Fit}
@@ -250,10 +247,6 @@ none-written : (p : List ℕ) → p ≡ written [] p
 unfolding written
 none-written p = refl
 
--- ---- the scratch
-wiped-rows : {m a : ℕ} {s t : Lists ℤ} → KeptLists m a s t → wiped m a (pos 0) t ≡ wiped m a (pos 0) s
-wiped-rows {m} {a} {s} {t} k = λ i. listsOf (filled-same (m + 1) 0 (t .offsets) (s .offsets) (k .offsets .rest) i) (filled-same a 0 (t .heads) (s .heads) (k .heads .rest) i) (filled-same a (pos 0) (t .weights) (s .weights) (k .weights .rest) i)
-
 -- ---- the whole call
 module _ {m n : ℕ} {d : Bool} {xs ys : List ℕ} {cs : List ℤ} {q : Question} {b : Buffers} (w : Ripe m n d xs ys cs q b) where
   -- the map, by some marks
@@ -294,7 +287,7 @@ module _ {m n : ℕ} {d : Bool} {xs ys : List ℕ} {cs : List ℤ} {q : Question
     outcome {l} {r} {a} {u} y e f = go y
       where
         clean : u ≡ wipedAll m (arcRoom d n) (b .scratch)
-        clean = f ∙ (ap (λ (k : ℕ). wipedAll m k t) e ∙ (λ i. record { rows = wiped-rows (z .rows) i; memory = wiped-memory (z .memory) i }))
+        clean = f ∙ (ap (λ (k : ℕ). wipedAll m k t) e ∙ (λ i. record { rows = wiped-rows (pos 0) (z .rows) i; memory = wiped-memory (z .memory) i }))
 
         made : (p : List ℕ) → Says (Arc d (links n xs ys cs)) q (z .end) r p → l ≡ written p (filled m noneU32 (b .path)) → Outcome (Arc d (links n xs ys cs)) m (arcRoom d n) q b (record { path = l; scratch = u }) r
         made p s k = record { end = z .end; ends = z .ends; path = p; says = s; leaves = λ i. record { path = k i; scratch = clean i } }

@@ -8,11 +8,10 @@ use lib.IntN.{ℤ, pos}
 use lib.ListN.{length}
 use Rattle.clean.specs.Fill.{filled}
 use Rattle.clean.specs.None.{noneI64}
-use Rattle.clean.proofs.Filled.{filled-at, filled-same, settle}
+use Rattle.clean.proofs.Filled.{filled-at, settle}
 use Rattle.net.specs.Net.{Net, has, sizeOf}
 use Rattle.rows.specs.Kept.{Kept, KeptLists}
-use Rattle.rows.specs.Rows.{listsOf}
-use Rattle.rows.proofs.Kept.{kept-none, kept-more, kept-filled, kept-twice, needs-kept, lists-wiped}
+use Rattle.rows.proofs.Kept.{kept-none, kept-more, kept-filled, kept-same, kept-twice, needs-kept, lists-wiped, wiped-rows}
 use Rattle.bellman_ford.specs.Promise.{Scratch, Buffers, wipedAll, clear, blank, Promise, unknown, negative, done}
 use Rattle.bellman_ford.specs.Parts.{Room, Ripe, Solved}
 use Rattle.bellman_ford.proofs.Refusals.{Passed}
@@ -45,10 +44,10 @@ module _ {m a : ℕ} {s t : Scratch} where
   -- after a change of the part used, wiping leaves what it would have left before
   wiped-same : KeptScratch m a s t → wipedAll m a t ≡ wipedAll m a s
   wiped-same k = λ i. record {
-    rows = listsOf (filled-same (m + 1) 0 (t .rows .offsets) (s .rows .offsets) (k .rows .offsets .rest) i) (filled-same a 0 (t .rows .heads) (s .rows .heads) (k .rows .heads .rest) i) (filled-same a (pos 0) (t .rows .weights) (s .rows .weights) (k .rows .weights .rest) i);
-    queue = filled-same m 0 (t .queue) (s .queue) (k .queue .rest) i;
-    queued = filled-same m 0 (t .queued) (s .queued) (k .queued .rest) i;
-    lengths = filled-same m 0 (t .lengths) (s .lengths) (k .lengths .rest) i;
+    rows = wiped-rows (pos 0) (k .rows) i;
+    queue = kept-same 0 (k .queue) i;
+    queued = kept-same 0 (k .queued) i;
+    lengths = kept-same 0 (k .lengths) i;
   }
 
 -- one change after another

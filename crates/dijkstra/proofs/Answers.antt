@@ -12,9 +12,8 @@ use Rattle.clean.proofs.Filled.{filled-same}
 use Rattle.walks.specs.Walk.{Entry}
 use Rattle.net.specs.Net.{Net, ArcOf, sizeOf}
 use Rattle.net.proofs.Nodes.{has-below}
-use Rattle.rows.specs.Rows.{listsOf}
 use Rattle.rows.specs.Kept.{Kept, KeptLists}
-use Rattle.rows.proofs.Kept.{kept-none, kept-filled, needs-kept, lists-wiped}
+use Rattle.rows.proofs.Kept.{kept-none, kept-filled, kept-same, needs-kept, lists-wiped, wiped-rows}
 use Rattle.turns.specs.Firsts.{Roomy}
 use Rattle.search.specs.Runs.{Reached, done as all, bad as refuse}
 use Rattle.dijkstra.specs.Promise.{Scratch, Buffers, memory, wipedAll, clear, Promise, bad, done}
@@ -57,11 +56,11 @@ module _ {m a : ℕ} {s t : Scratch} where
   -- and wiping shows nothing of what the used part held
   wiped-same : KeptScratch m a s t → wipedAll m a t ≡ wipedAll m a s
   wiped-same k = λ i. record {
-    rows = listsOf (filled-same (m + 1) 0 (t .rows .offsets) (s .rows .offsets) (k .rows .offsets .rest) i) (filled-same a 0 (t .rows .heads) (s .rows .heads) (k .rows .heads .rest) i) (filled-same a (pos 0) (t .rows .weights) (s .rows .weights) (k .rows .weights .rest) i);
-    preds = filled-same m 0 (t .preds) (s .preds) (k .preds .rest) i;
-    heap = filled-same m 0 (t .heap) (s .heap) (k .heap .rest) i;
-    places = filled-same m 0 (t .places) (s .places) (k .places .rest) i;
-    keys = filled-same m (pos 0) (t .keys) (s .keys) (k .keys .rest) i;
+    rows = wiped-rows (pos 0) (k .rows) i;
+    preds = kept-same 0 (k .preds) i;
+    heap = kept-same 0 (k .heap) i;
+    places = kept-same 0 (k .places) i;
+    keys = kept-same (pos 0) (k .keys) i;
   }
 
 module _ {g : Net ℤ} {s : ℕ} {b : Buffers} (ok : Passed g s b) where

@@ -9,11 +9,9 @@ use lib.IntN.{ℤ, pos}
 use lib.ListN.{length}
 use Rattle.clean.specs.Fill.{filled}
 use Rattle.clean.specs.None.{noneI64}
-use Rattle.clean.proofs.Filled.{filled-same}
 use Rattle.net.specs.Net.{Net, sizeOf, width}
-use Rattle.rows.specs.Rows.{listsOf}
-use Rattle.rows.specs.Kept.{Kept, Needs}
-use Rattle.rows.proofs.Kept.{needs-kept}
+use Rattle.rows.specs.Kept.{Needs}
+use Rattle.rows.proofs.Kept.{kept-same, needs-kept, wiped-rows}
 use Rattle.matrix.specs.Matrix.{square, negative, done}
 use Rattle.johnson.specs.Promise.{Scratch, wipedAll, Promise}
 use Rattle.johnson.specs.Parts.{refusalNo, Room, Passed, Solved}
@@ -24,10 +22,6 @@ use Rattle.johnson.proofs.Refusals.{not-refused, passed}
 -- the scratch needs at most 8(m + 1) + 4a entries
 pub budget : (m a : ℕ) → (m + 1) + a + a + m + m + m + m + m + m ≤ 8 * (m + 1) + 4 * a
 budget m a = omega arith
-
--- filling goes by the rest
-again : {X : Type 0} {n : ℕ} {l l₁ : List X} → Kept n l l₁ → (x : X) → filled n x l₁ ≡ filled n x l
-again {n} {l} {l₁} k x = filled-same n x l₁ l (k .rest)
 
 module _ (g : Net ℤ) (matrix : List ℤ) (s : Scratch) (ok : refusalNo g matrix s ≡ 0) where
   p : Passed g matrix s
@@ -49,8 +43,8 @@ module _ (g : Net ℤ) (matrix : List ℤ) (s : Scratch) (ok : refusalNo g matri
       -- the scratch at the end
       ends : s₂ ≡ wipedAll (g .bound) (sizeOf g) s
       ends = all ∙ (λ i. record {
-        rows = listsOf (again (v .kept .rows .offsets) 0 i) (again (v .kept .rows .heads) 0 i) (again (v .kept .rows .weights) (pos 0) i);
-        heights = again (v .kept .heights) (pos 0) i;
+        rows = wiped-rows (pos 0) (v .kept .rows) i;
+        heights = kept-same (pos 0) (v .kept .heights) i;
         memory = wiped-memory (v .kept .memory) i;
       })
 
@@ -65,7 +59,7 @@ module _ (g : Net ℤ) (matrix : List ℤ) (s : Scratch) (ok : refusalNo g matri
 
         module _ {matrix₂ : List ℤ} (blank : matrix₂ ≡ filled (k * k) noneI64 matrix₁) where
           blanked : matrix₂ ≡ filled (square g) noneI64 matrix
-          blanked = subst (λ (x : ℕ). matrix₂ ≡ filled (x * x) noneI64 matrix₁) many blank ∙ again (v .output) noneI64
+          blanked = subst (λ (x : ℕ). matrix₂ ≡ filled (x * x) noneI64 matrix₁) many blank ∙ kept-same noneI64 (v .output)
 
           pub answer-yes : r ≡ true → Promise g matrix s matrix₂ s₂ 7
           answer-yes f = negative refl (not-refused g matrix s ok .0) (not-refused g matrix s ok .1) (v .yes f) blanked ends

@@ -11,9 +11,9 @@ use lib.ListN.{length, drop, set, length-set}
 use lib.Seq.{drop-set-lt, drop-drop}
 use Rattle.whole.proofs.Cases.{and-left, and-right}
 use Rattle.clean.specs.Fill.{filled}
-use Rattle.clean.proofs.Filled.{filled-length, filled-rest, filled-twice}
+use Rattle.clean.proofs.Filled.{filled-length, filled-rest, filled-same, filled-twice}
 use Rattle.table.specs.Links.{Link, starts}
-use Rattle.rows.specs.Rows.{Lists, Room, Rows}
+use Rattle.rows.specs.Rows.{Lists, listsOf, Room, Rows}
 use Rattle.rows.specs.Scratch.{hasRoom, wiped}
 use Rattle.rows.specs.Kept.{Kept, KeptLists, Needs}
 use Rattle.rows.proofs.Segments.{starts-le}
@@ -39,6 +39,10 @@ module _ {A : Type 0} where
 
   pub kept-filled : {n : ℕ} (x : A) {a b : List A} → n ≤ length a → b ≡ filled n x a → Kept n a b
   kept-filled {n} x {a} h e = record { long = ap length e ∙ filled-length n x a h; rest = ap (drop n) e ∙ filled-rest n x a }
+
+  -- filling shows nothing of what the part used held
+  pub kept-same : {n : ℕ} (x : A) {a b : List A} → Kept n a b → filled n x b ≡ filled n x a
+  kept-same {n} x {a} {b} k = filled-same n x b a (k .rest)
 
   -- filled, used, and filled again
   pub kept-twice : {n : ℕ} (x : A) (l : List A) {a b c : List A} → a ≡ filled n x l → Kept n a b → c ≡ filled n x b → c ≡ filled n x l
@@ -80,6 +84,10 @@ module _ {C : Type 0} where
       heads = kept-filled 0 (n .heads) (ap (λ (l : Lists C). l .heads) e);
       weights = kept-filled z (n .weights) (ap (λ (l : Lists C). l .weights) e);
     }
+
+    -- wiping shows nothing of what the parts used held
+    pub wiped-rows : (z : C) {s t : Lists C} → KeptLists m a s t → wiped m a z t ≡ wiped m a z s
+    wiped-rows z k = λ i. listsOf (kept-same 0 (k .offsets) i) (kept-same 0 (k .heads) i) (kept-same z (k .weights) i)
 
     -- room for arcs that are no more than a, and what making their list keeps
     module _ {A : List (Link C)} (few : length A ≤ a) where

@@ -8,7 +8,7 @@ use lib.Dec.{leb}
 use lib.IntN.{ℤ, pos}
 use lib.ListN.{length}
 use Rattle.whole.proofs.Cases.{and-left, and-right}
-use Rattle.clean.proofs.Filled.{filled-same}
+use Rattle.rows.proofs.Kept.{kept-same}
 use Rattle.turns.specs.Memory.{Memory, memoryOf}
 use Rattle.turns.specs.Firsts.{Roomy, KeptMemory}
 use Rattle.search.specs.Lists.{hasMemory, wipedMemory}
@@ -35,7 +35,4 @@ has-memory m M e =
 
 -- where only the first entries changed, wiping leaves the same
 pub wiped-memory : {m : ℕ} {M K : Memory ℤ} → KeptMemory m M K → wipedMemory m K ≡ wipedMemory m M
-wiped-memory {m} {M} {K} k =
-    λ i.
-    memoryOf (filled-same m (pos 0) (K .dist) (M .dist) (k .dist .rest) i) (filled-same m 0 (K .preds) (M .preds) (k .preds .rest) i) (filled-same m 0 (K .heap) (M .heap) (k .heap .rest) i) (filled-same m 0 (K .places) (M .places) (k .places .rest) i)
-    (filled-same m (pos 0) (K .keys) (M .keys) (k .keys .rest) i)
+wiped-memory k = λ i. memoryOf (kept-same (pos 0) (k .dist) i) (kept-same 0 (k .preds) i) (kept-same 0 (k .heap) i) (kept-same 0 (k .places) i) (kept-same (pos 0) (k .keys) i)
