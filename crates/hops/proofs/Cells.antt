@@ -4,13 +4,13 @@ use mathlib.Core.Path.{_≡_, refl, sym, ap, _∙_, subst}
 use mathlib.Core.List.{List}
 use mathlib.Core.Logic.{inl, inr, ⊎-elim}
 use Prim.Native.Nat.{ℕ, zero, suc, _+_, _-_, _*_, _≤_, _<_}
-use native.Mathlib.Nat.{mul-le-mul-right}
 use native.Mathlib.Omega.{arith}
 use native.Mathlib.Decide.{ℕ-discrete}
 use lib.ListN.{length, getD, drop, set, length-set}
 use lib.Seq.{getD-set-same, getD-set-other}
 use Rattle.clean.specs.Fill.{filled}
 use Rattle.clean.proofs.Filled.{filled-length, filled-at, filled-rest}
+use Rattle.matrix.proofs.Matrix.{row-before}
 use Rattle.hops.specs.Steps.{Entry}
 use Rattle.hops.specs.Search.{labelOf, sizeAfter, shownOf, Fresh, Searched, CanShow, RowShown, CanRow, RowMade, CanFill, Filled}
 
@@ -65,9 +65,6 @@ module _ {m p s at : ℕ} {ns l q mat : List ℕ} (can : CanRow m p s at ns l q 
     }
 
 -- ---- all rows
-pub row-in : (p i : ℕ) → i < p → i * p + p ≤ p * p
-row-in p i h = let k : suc i * p ≤ p * p = mul-le-mul-right p h in omega arith
-
 module _ {m p : ℕ} {E : ℕ → ℕ → Type 0} {ns l q mat : List ℕ} where
   pub filled-first : Filled m p 0 E ns l q mat l q mat
   filled-first = record { rest = record { longL = refl; longQ = refl; labels = refl; queue = refl }; long = refl; entry = λ a b x y. absurd (omega arith); other = λ x h. refl }
@@ -84,9 +81,6 @@ module _ {m p : ℕ} {E : ℕ → ℕ → Type 0} {ns l q mat : List ℕ} where
       other = λ x k. r .other x (inr (omega arith)) ∙ f .other x (omega arith);
     }
       where
-        before : (a b : ℕ) → a < i → b < p → a * p + b < i * p
-        before a b x y = let k : suc a * p ≤ i * p = mul-le-mul-right p x in omega arith
-
         go : (a b : ℕ) → a < i + 1 → b < p → Dec (a ≡ i) → Entry E (getD ns a 0) (getD ns b 0) (getD mat₂ (a * p + b) 0)
         go a b x y (yes e) = subst (λ (z : ℕ). Entry E (getD ns z 0) (getD ns b 0) (getD mat₂ (z * p + b) 0)) (sym e) (r .entry b y)
-        go a b x y (no n) = let k : a < i = omega (arith, n) in subst (λ (z : ℕ). Entry E (getD ns a 0) (getD ns b 0) z) (sym (r .other (a * p + b) (inl (before a b k y)))) (f .entry a b k y)
+        go a b x y (no n) = let k : a < i = omega (arith, n) in subst (λ (z : ℕ). Entry E (getD ns a 0) (getD ns b 0) z) (sym (r .other (a * p + b) (inl (row-before p a i b k y)))) (f .entry a b k y)

@@ -11,21 +11,18 @@ use Rattle.table.specs.Links.{ends, present}
 use Rattle.net.specs.Net.{Net, LeadsOf, nodesOf, width, sizeOf}
 use Rattle.net.proofs.Nodes.{node-marked, width-most}
 use Rattle.net.proofs.Same.{leads-below}
-use Rattle.rows.specs.Rows.{units, endLists, arcsEnds, Room, Rows}
+use Rattle.rows.specs.Rows.{endLists, arcsEnds, Room, Rows}
 use Rattle.rows.specs.RowArc.{Sound}
 use Rattle.rows.specs.Kept.{KeptLists}
 use Rattle.rows.proofs.Graph.{arc-of, row-of, sound}
 use Rattle.rows.proofs.Kept.{rows-kept}
 use Rattle.rows.proofs.Maps.{links-room, room-of}
+use Rattle.rows.proofs.Places.{units-long}
 use Rattle.hops.specs.Steps.{Entry}
 use Rattle.hops.specs.Search.{RowLeads, CanFill, Filled}
 use Rattle.hops.specs.Promise.{Buffers, buffersOf, Matrix}
 use Rattle.hops.specs.Parts.{netEnds, Ripe, Solved}
 use Rattle.hops.proofs.Steps.{entry-over}
-
-units-long : (hs : List ℕ) → length (units hs) ≡ length hs
-units-long [] = refl
-units-long (h ∷ hs) = ap suc (units-long hs)
 
 module _ {m n : ℕ} {d : Bool} {marks xs ys : List ℕ} {b : Buffers} (ripe : Ripe m n d marks xs ys b) where
   -- the map without its costs

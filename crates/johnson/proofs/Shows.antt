@@ -29,7 +29,7 @@ use Rattle.turns.specs.Memory.{Memory}
 use Rattle.turns.specs.Firsts.{KeptMemory}
 use Rattle.turns.proofs.Firsts.{memory-none}
 use Rattle.search.specs.Runs.{Cheap, Reached, done, bad}
-use Rattle.matrix.proofs.Matrix.{square-small}
+use Rattle.matrix.proofs.Matrix.{square-small, row-in, row-before}
 use Rattle.johnson.specs.Rounds.{label, Deep}
 use Rattle.johnson.specs.Shifting.{shiftedBack}
 use Rattle.johnson.specs.Parts.{Even, Found, rank, Moderate, CanShow, RowShown, CanFill, Shown, Filled, RowMade}
@@ -138,14 +138,6 @@ found w (bad e b) v h =
     absurd (omega (arith, zed))
 
 -- ---- all rows
--- a row lies in the square
-row-in : (p i : ℕ) → i < p → i * p + p ≤ p * p
-row-in p i h = let k : suc i * p ≤ p * p = mul-le-mul-right p h in omega arith
-
--- an entry of a row comes before the rows after it
-row-before : (p i j a : ℕ) → i < j → a < p → i * p + a < j * p
-row-before p i j a h l = let k : suc i * p ≤ j * p = mul-le-mul-right p h in omega arith
-
 module _ {m p : ℕ} {marks : List ℕ} {nb : Lists ℤ} {h matrix : List ℤ} (can : CanFill m p marks nb h matrix) where
   few : p ≤ 1024
   few = omega (arith, can .width, count-most (present m marks) m, can .even .rows .bounded)

@@ -24,6 +24,14 @@ use Rattle.matrix.specs.Matrix.{square, Matrix}
 pub place-in : (p u v : ℕ) → u < p → v < p → u * p + v < p * p
 place-in p u v i j = let h : suc u * p ≤ p * p = mul-le-mul-right p i in omega arith
 
+-- so does a row
+pub row-in : (p i : ℕ) → i < p → i * p + p ≤ p * p
+row-in p i h = let k : suc i * p ≤ p * p = mul-le-mul-right p h in omega arith
+
+-- an entry of a row comes before the rows after it
+pub row-before : (p i j a : ℕ) → i < j → a < p → i * p + a < j * p
+row-before p i j a h l = let k : suc i * p ≤ j * p = mul-le-mul-right p h in omega arith
+
 -- with at most 1024 rows it is small
 pub square-small : (p : ℕ) → p ≤ 1024 → p * p ≤ 1048576
 square-small p h = let a : p * p ≤ 1024 * p = mul-le-mul-right p h in omega arith

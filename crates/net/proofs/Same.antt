@@ -6,19 +6,13 @@ use mathlib.Core.List.{List, [], _∷_}
 use mathlib.Core.Logic.{inl, inr, ⊎-elim, _↔_}
 use Prim.Native.Nat.{ℕ, _<_}
 use lib.ListN.{length}
+use Rattle.whole.proofs.Cases.{agree}
 use Rattle.table.specs.Links.{Link, Arc}
 use Rattle.table.specs.Lent.{FloatCost}
 use Rattle.table.proofs.Arcs.{arc-inside, inside-arc}
 use Rattle.table.proofs.Joins.{joined, joins-of}
 use Rattle.net.specs.Net.{Net, linksOf, ArcOf, OpenArcOf, LeadsOf, has, rising, nodesOf, width, insideNet, arcRoom, sizeOf, SameNet}
 use Rattle.net.proofs.Nodes.{rising-same, has-below}
-
--- two tests that agree where either holds
-agree : (x y : Bool) → (x ≡ true → y ≡ true) → (y ≡ true → x ≡ true) → x ≡ y
-agree true true f g = refl
-agree true false f g = sym (f refl)
-agree false true f g = g refl
-agree false false f g = refl
 
 -- both ends of an arc are indices that the map has
 module _ {C : Type 0} (g : Net C) (e : insideNet g ≡ true) where

@@ -7,8 +7,8 @@ use Prim.Native.Nat.{ℕ, _-_, _≤_}
 use native.Mathlib.Omega.{arith}
 use borrow.Author.Needs.{needs}
 use Rattle.hops.specs.Search.{Filled, RowLeads}
-use Rattle.hops.proofs.Cells.{filled-first, filled-next, can-row, row-in}
-use Rattle.matrix.proofs.Matrix.{square-small}
+use Rattle.hops.proofs.Cells.{filled-first, filled-next, can-row}
+use Rattle.matrix.proofs.Matrix.{square-small, row-in}
 
 abbrev Inv-loop : tie.InvT-loop
 Inv-loop m p nodes offsets heads labels₀ queue₀ matrix₀ i₀ labels queue matrix i = (i ≤ p) × Filled m p i (RowLeads m offsets heads) nodes labels₀ queue₀ matrix₀ labels queue matrix
