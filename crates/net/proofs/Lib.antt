@@ -4,3 +4,4 @@ pub mod Same
 pub mod Lists
 pub mod Totals
 pub mod Tests
+pub mod Cheapest

@@ -11,7 +11,7 @@ use lib.Signed.{_≤ℤ_}
 use Rattle.whole.specs.Zed.{_⊕_, zed, sum}
 use Rattle.walks.specs.Pigeon.{In, here, there, NoDup}
 use Rattle.walks.specs.Walk.{Walk, stay}
-use Rattle.walks.specs.Chain.{Chain, source, via, hops, passed, Cheapest}
+use Rattle.walks.specs.Chain.{Chain, source, via, hops, passed, CheapestArc, Cheapest}
 use Rattle.walks.proofs.Pigeon.{short}
 use Rattle.walks.proofs.Walk.{join, arc}
 
@@ -64,7 +64,7 @@ module _ {Arc : ℕ → ℕ → ℤ → Type 0} {o : ℕ} {dist : ℕ → Option
   hops-few ps f e q c = omega (arith, passed-length c, short (passed c) ps (chain-distinct c) (passed-in ps f e q c))
 
   -- the last arc of a path
-  last-step : {v u : ℕ} {t : ℤ} (c : Chain Arc o dist pred u) → Cheapest Arc (v ∷ passed c) t → (b : ℤ) × (r : ℤ) × Arc u v b × ((x : ℤ) → Arc u v x → b ≤ℤ x) × Cheapest Arc (passed c) r × (t ≡ r ⊕ b)
+  last-step : {v u : ℕ} {t : ℤ} (c : Chain Arc o dist pred u) → Cheapest Arc (v ∷ passed c) t → (b : ℤ) × (r : ℤ) × CheapestArc Arc u v b × Cheapest Arc (passed c) r × (t ≡ r ⊕ b)
   last-step (source e) h = h
   last-step (via u n p l c) h = h
 
@@ -77,15 +77,14 @@ module _ {Arc : ℕ → ℕ → ℤ → Type 0} {o : ℕ} {dist : ℕ → Option
       omega (arith, zed, sum b t)
   cheapest-low {v} t b e p q (via u n r l c) h =
       let x = last-step c h in
-      let m : x .0 ≤ℤ l .c = x .3 (l .c) (l .arc-is) in
-      let y : b ⊕ x .1 ≤ℤ l .d = cheapest-low (x .1) b (l .d) p (l .from) c (x .4) in
+      let y : b ⊕ x .1 ≤ℤ l .d = cheapest-low (x .1) b (l .d) p (l .from) c (x .3) in
       let k : some (l .e) ≡ some e = sym (l .to) ∙ q in
       let z : l .e ≡ e = cc in
       let w : l .d ⊕ l .c ≤ℤ l .e = l .low in
-      let g : t ≡ x .1 ⊕ x .0 = x .5 in
-      omega (arith, zed, sum b (x .1), sum (l .d) (l .c), sum (x .1) (x .0), sum b t)
+      let g : t ≡ x .1 ⊕ x .0 = x .4 in
+      omega (arith, zed, x .2 .lowest (l .c) (l .arc-is), sum b (x .1), sum (l .d) (l .c), sum (x .1) (x .0), sum b t)
 
   -- and is a walk's total
   pub cheapest-walk : {v : ℕ} {t : ℤ} (c : Chain Arc o dist pred v) → Cheapest Arc (passed c) t → Walk Arc o v t
   cheapest-walk {v} {t} (source i) h = subst (λ (x : ℕ). Walk Arc o x t) (sym i) (stay {t = t} h)
-  cheapest-walk {v} {t} (via u n r l c) h = let x = last-step c h in join (cheapest-walk c (x .4)) (arc (x .2)) (x .5)
+  cheapest-walk {v} {t} (via u n r l c) h = let x = last-step c h in join (cheapest-walk c (x .3)) (arc (x .2 .arc-is)) (x .4)

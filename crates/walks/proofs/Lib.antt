@@ -9,3 +9,4 @@ pub mod Shift
 pub mod Weigh
 pub mod Front
 pub mod Chain
+pub mod Cheapest

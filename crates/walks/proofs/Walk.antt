@@ -41,6 +41,11 @@ module _ {Arc : ℕ → ℕ → ℤ → Type 0} where
   pub arc : {u v : ℕ} {c : ℤ} → Arc u v c → Walk Arc u v c
   arc {c} a = step {r = c} a (stay refl) (omega (arith, zed, sum c (pos 0)))
 
+  -- where no cost is below zero, no total is
+  pub walk-up : ((u v : ℕ) (c : ℤ) → Arc u v c → pos 0 ≤ℤ c) → {u v : ℕ} {t : ℤ} → Walk Arc u v t → pos 0 ≤ℤ t
+  walk-up f {t} (stay e) = omega (arith, zed)
+  walk-up f {t = r} (step {u} {v} {c} {t} a w e) = omega (arith, zed, f u v c a, walk-up f w, sum c t)
+
   -- one least total
   pub least-unique : {s v : ℕ} {d e : ℤ} → Least Arc s v d → Least Arc s v e → d ≡ e
   least-unique {d} {e} a b =

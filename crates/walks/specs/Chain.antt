@@ -1,6 +1,6 @@
--- Predecessors: the chain of them from an index back to the source, and the total of a path with the cheapest arc at each step.
+-- Predecessors: the chain of them from an index back to the source. Paths, and the total of a path with the cheapest arc at each step.
 use mathlib.Core.Path.{_≡_}
-use mathlib.Core.List.{List, [], _∷_}
+use mathlib.Core.List.{List, [], _∷_, _++_}
 use mathlib.Core.Option.{Option, some}
 use Prim.Native.Nat.{ℕ, suc}
 use lib.IntN.{ℤ, pos}
@@ -34,8 +34,18 @@ module _ {Arc : ℕ → ℕ → ℤ → Type 0} {o : ℕ} {dist : ℕ → Option
   passed {v} (source e) = v ∷ []
   passed {v} (via u n p l c) = v ∷ passed c
 
+-- a path from s to v: its indices, s first, each joined to the next by an arc
+pub data Path (Arc : ℕ → ℕ → ℤ → Type 0) (s : ℕ) : ℕ → List ℕ → Type 0 where
+  start : {v : ℕ} {l : List ℕ} → v ≡ s → l ≡ s ∷ [] → Path Arc s v l
+  onto : {v : ℕ} {l : List ℕ} (u : ℕ) (k : List ℕ) (c : ℤ) → Path Arc s u k → Arc u v c → l ≡ k ++ (v ∷ []) → Path Arc s v l
+
+-- c is the cost of the cheapest arc from u to v
+pub record CheapestArc (Arc : ℕ → ℕ → ℤ → Type 0) (u v : ℕ) (c : ℤ) : Type 0 where
+  pub arc-is : Arc u v c
+  pub lowest : (b : ℤ) → Arc u v b → c ≤ℤ b
+
 -- t is the total of a path with the cheapest arc at each step, the path written from its end back to its start
 abbrev pub Cheapest : (ℕ → ℕ → ℤ → Type 0) → List ℕ → ℤ → Type 0
 Cheapest Arc [] t = ⊥
 Cheapest Arc (v ∷ []) t = t ≡ pos 0
-Cheapest Arc (v ∷ u ∷ l) t = (c : ℤ) × (r : ℤ) × Arc u v c × ((b : ℤ) → Arc u v b → c ≤ℤ b) × Cheapest Arc (u ∷ l) r × (t ≡ r ⊕ c)
+Cheapest Arc (v ∷ u ∷ l) t = (c : ℤ) × (r : ℤ) × CheapestArc Arc u v c × Cheapest Arc (u ∷ l) r × (t ≡ r ⊕ c)
