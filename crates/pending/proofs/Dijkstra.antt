@@ -6,7 +6,7 @@ use mathlib.Core.Bool.{Bool, true, false, true≢false}
 use mathlib.Core.Logic.{_⊎_, inl, inr}
 use mathlib.Core.List.{List}
 use mathlib.Core.Option.{Option, none, some}
-use Prim.Native.Nat.{ℕ}
+use Prim.Native.Nat.{ℕ, _≤_}
 use native.Mathlib.Omega.{arith}
 use lib.ListN.{length}
 use lib.IntN.{ℤ, pos}
@@ -72,20 +72,14 @@ module _ (key : ℤ → ℕ → ℤ) (target : Option ℕ) (o : ℕ) (Arc : ℕ 
 
 -- ---- the answer
 module _ (Arc : ℕ → ℕ → ℤ → Type 0) (o : ℕ) where
-  -- kept takes, from the list of those with a distance
-  same-count : {e : End ℤ} → Counted (dijkstra o) (whole-laws (λ d v. d) none o) (λ d v. refl) (λ d c x. whole-grows d c) Arc e → ((v : ℕ) (d : ℤ) → e .dist v ≡ some d → Walk Arc o v d) → ((v : ℕ) → e .dist v ≡ none → (t : ℤ) → Walk Arc o v t → ⊥)
-      → (l : List ℕ) → Reachable Arc o l → e .takes ≡ length l
-  same-count {e} k walk gone l r = omega (arith, k .many, short (k .those) l (k .distinct) into, short l (k .those) (r .distinct) back)
+  -- the indices with a distance, which were counted, are those in reach
+  in-reach : {e : End ℤ} → Counted (dijkstra o) (whole-laws (λ d v. d) none o) (λ d v. refl) (λ d c x. whole-grows d c) Arc e → ((v : ℕ) (d : ℤ) → e .dist v ≡ some d → Walk Arc o v d) → ((v : ℕ) → e .dist v ≡ none → (t : ℤ) → Walk Arc o v t → ⊥)
+      → (l : List ℕ) × Reachable Arc o l × (e .takes ≡ length l)
+  in-reach {e} k walk gone = (k .those, record { distinct = k .distinct; reached = λ v i. let x = k .have v i in (x .0, walk v (x .0) (x .1)); all = λ v t w. listed v t w (e .dist v) refl }, k .many)
     where
-      into : (v : ℕ) → In v (k .those) → In v l
-      into v i = let x = k .have v i in r .all v (x .0) (walk v (x .0) (x .1))
-
-      back : (v : ℕ) → In v l → In v (k .those)
-      back v i = go (e .dist v) refl
-        where
-          go : (x : Option ℤ) → e .dist v ≡ x → In v (k .those)
-          go none q = let y = r .reached v i in absurd (gone v q (y .0) (y .1))
-          go (some d) q = k .all v d q
+      listed : (v : ℕ) (t : ℤ) → Walk Arc o v t → (x : Option ℤ) → e .dist v ≡ x → In v (k .those)
+      listed v t w none q = absurd (gone v q t w)
+      listed v t w (some d) q = k .all v d q
 
   -- the answer, from how the search ended
   from-final : {e : End ℤ} → Final (λ d v. d) none o Arc e → (e .number ≡ 0 → Counted (dijkstra o) (whole-laws (λ d v. d) none o) (λ d v. refl) (λ d c x. whole-grows d c) Arc e) → DijkstraAnswer Arc o e
@@ -95,7 +89,7 @@ module _ (Arc : ℕ → ℕ → ℤ → Type 0) (o : ℕ) where
     unreached = λ q. rest-none (λ d v. d) none o Arc s h f;
     clean = λ q. rest-clean (λ d v. d) none o Arc s h f;
     chain = λ q v d i. let x = dist-has (s v) d i in h .chain v d (x .0) (x .1);
-    takes = λ q l r. same-count (k q) (λ v d i. let x = dist-has (s v) d i in h .walk v d (x .0) (x .1)) (rest-none (λ d v. d) none o Arc s h f) l r;
+    takes = λ q. in-reach (k q) (λ v d i. let x = dist-has (s v) d i in h .walk v d (x .0) (x .1)) (rest-none (λ d v. d) none o Arc s h f);
     refused-why = λ q. absurd (omega arith);
     blank = λ q. absurd (omega arith);
   }
@@ -116,6 +110,13 @@ module _ (Arc : ℕ → ℕ → ℤ → Type 0) (o : ℕ) where
   dijkstra-answer r =
       from-final (final (λ d v. d) none o Arc (begin-inv (λ d v. d) none o Arc) r)
       (λ q. counted (dijkstra o) (whole-laws (λ d v. d) none o) (λ d v. refl) (λ d c x. whole-grows d c) Arc (λ u g. absurd (true≢false (sym g))) (begin-once (dijkstra o) (whole-laws (λ d v. d) none o) (λ d v. refl) (λ d c x. whole-grows d c) Arc) r q)
+
+-- every list of the indices in reach is as long as the takes are many
+pub takes-all : {Arc : ℕ → ℕ → ℤ → Type 0} {o : ℕ} {e : End ℤ} → DijkstraAnswer Arc o e → e .number ≡ 0 → (l : List ℕ) → Reachable Arc o l → e .takes ≡ length l
+takes-all {Arc} {o} a q l r = let k = a .takes q in omega (arith, k .2, longest (k .1) r, longest r (k .1))
+  where
+    longest : {l k : List ℕ} → Reachable Arc o l → Reachable Arc o k → length l ≤ length k
+    longest {l} {k} x y = short l k (x .distinct) (λ v i. let w = x .reached v i in y .all v (w .0) (w .1))
 
 -- it ends, on every map
 pub dijkstra-ends : (arcs : ℕ → List (ℕ × ℤ)) (o : ℕ) (ps : List ℕ) → In o ps → ((u v : ℕ) (c : ℤ) → ArcOf arcs u v c → In v ps)

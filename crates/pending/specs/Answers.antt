@@ -21,8 +21,8 @@ pub record DijkstraAnswer (Arc : ℕ → ℕ → ℤ → Type 0) (o : ℕ) (e : 
   pub clean : e .number ≡ 0 → BadInReach Arc o → ⊥
   -- the predecessors lead to the source, by arcs that meet the distances
   pub chain : e .number ≡ 0 → (v : ℕ) (d : ℤ) → e .dist v ≡ some d → Chain Arc o (e .dist) (e .pred) v
-  -- each index in reach was taken once
-  pub takes : e .number ≡ 0 → (l : List ℕ) → Reachable Arc o l → e .takes ≡ length l
+  -- each index in reach was taken once: as many takes as a list of them is long
+  pub takes : e .number ≡ 0 → (l : List ℕ) × Reachable Arc o l × (e .takes ≡ length l)
   -- 6: an arc below zero leaves an index in reach; blank
   pub refused-why : e .number ≡ 6 → BadInReach Arc o
   pub blank : e .number ≡ 6 → (v : ℕ) → (e .dist v ≡ none) × (e .pred v ≡ none)
