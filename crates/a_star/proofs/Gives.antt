@@ -1,11 +1,11 @@
--- What a path that is given is: a path of the map from the source to the target without an index twice, its total with the cheapest arcs never above the cost; with
--- a heuristic that is 0 at the target and at each index of the map no more than the total of any walk from there to the target, the cost is the least total and the
--- path's. From the source to itself it is the source alone, at cost 0.
+-- What a path that is given is: a path of the map from the source to the target without an index twice, its total with the cheapest arcs, which every path of a map has,
+-- never above the cost; with a heuristic that is 0 at the target and at each index of the map no more than the total of any walk from there to the target, the cost is
+-- the least total and the path's. From the source to itself it is the source alone, at cost 0.
 -- Assumes nothing.
 use mathlib.Core.Path.{_≡_, refl, sym, ap, _∙_, subst}
 use mathlib.Core.Bool.{true}
 use mathlib.Core.List.{List, [], _∷_, reverse, reverse-reverse}
-use mathlib.Core.Logic.{inl, inr, _↔_}
+use mathlib.Core.Logic.{_⊎_, inl, inr, _↔_}
 use mathlib.Core.Option.{Option, none, some}
 use Prim.Native.Nat.{ℕ, suc, _≤_, _<_}
 use native.Mathlib.Omega.{arith}
@@ -14,12 +14,14 @@ use lib.IntN.{ℤ, pos}
 use lib.Signed.{_≤ℤ_}
 use lib.ListN.{length, getD, take, drop, length-reverse}
 use lib.Seq.{take-at}
+use Rattle.whole.specs.Zed.{zed}
 use Rattle.whole.proofs.Cases.{clash}
 use Rattle.clean.specs.Fill.{filled}
-use Rattle.clean.specs.None.{noneU32}
+use Rattle.clean.specs.None.{noneI64, noneU32}
 use Rattle.walks.specs.Pigeon.{NoDup}
 use Rattle.walks.specs.Walk.{Walk, stay, step, Least}
-use Rattle.walks.specs.Chain.{passed, Cheapest}
+use Rattle.walks.specs.Chain.{passed, Path, Cheapest}
+use Rattle.walks.proofs.Walk.{walk-up}
 use Rattle.walks.proofs.Chain.{chain-distinct, passed-length}
 use Rattle.pending.specs.Setting.{End}
 use Rattle.pending.specs.OnePlace.{Cell, out, has as held, distOf, doneAt, begin, Ends, empty, found, wrong, more}
@@ -27,28 +29,11 @@ use Rattle.pending.specs.Reach.{Admissible}
 use Rattle.pending.proofs.Cells.{upd-cases, upd-here, not-out}
 use Rattle.net.specs.Net.{Net, ArcOf, has, width, sizeOf}
 use Rattle.net.proofs.Same.{arc-has}
-use Rattle.a_star.specs.Promise.{Question, Answer, answerOf, Buffers, Fine, written, searchOf, Says, bad, unreached, reached, Outcome, Promise, short, outside, noSource, noTarget, farGuess, ran}
-use Rattle.a_star.proofs.Path.{Path, chain-path, distinct-back, passed-source}
-use Rattle.a_star.proofs.Answers.{answered, chain-few}
-
--- the path that is given: as many entries as the answer says
-abbrev pub pathIn : Buffers → Answer → List ℕ
-pathIn e r = take (r .length) (e .path)
-
--- what 01 asks of a heuristic for the least total
-pub record Modest (g : Net ℤ) (q : Question) : Type 0 where
-  pub at-target : getD (q .guess) (q .target) (pos 0) ≡ pos 0
-  pub under : (v : ℕ) → has g v ≡ true → (t : ℤ) → Walk (ArcOf g) v (q .target) t → getD (q .guess) v (pos 0) ≤ℤ t
-
--- what a path that is given is
-pub record Given (g : Net ℤ) (q : Question) (r : Answer) (l : List ℕ) : Type 0 where
-  pub path : Path (ArcOf g) (q .source) (q .target) l
-  pub distinct : NoDup l
-  pub few : length l ≤ width g
-  pub walk : Walk (ArcOf g) (q .source) (q .target) (r .cost)
-  pub low : (t : ℤ) → Cheapest (ArcOf g) (reverse l) t → t ≤ℤ r .cost
-  pub least : Modest g q → Least (ArcOf g) (q .source) (q .target) (r .cost)
-  pub total : Modest g q → (t : ℤ) → Cheapest (ArcOf g) (reverse l) t → t ≡ r .cost
+use Rattle.net.proofs.Cheapest.{net-path-total}
+use Rattle.a_star.specs.Promise.{Question, Answer, answerOf, without, Buffers, Fine, written, searchOf, Says, bad, unreached, reached, Outcome, Promise, short, outside, noSource, noTarget, farGuess, ran}
+use Rattle.a_star.specs.Given.{pathIn, Modest, Given}
+use Rattle.a_star.proofs.Path.{chain-path, distinct-back, passed-source}
+use Rattle.a_star.proofs.Answers.{answered, got, chain-few}
 
 -- an index from which a walk leads to one that the map has is one too
 starts-has : (g : Net ℤ) → ((u v : ℕ) (c : ℤ) → ArcOf g u v c → has g u ≡ true) → {u v : ℕ} {t : ℤ} → Walk (ArcOf g) u v t → has g v ≡ true → has g u ≡ true
@@ -79,7 +64,8 @@ module _ {g : Net ℤ} {q : Question} {b : Buffers} where
         go (unreached z n p i) = absurd (omega (arith, h, ap (λ (x : Answer). x .length) p))
         go (reached z d n c p i) =
             let is : pathIn e r ≡ reverse (passed c) = path-front o p ∙ i in
-            let turned : reverse (pathIn e r) ≡ passed c = ap reverse is ∙ reverse-reverse (passed c) in
+            let t = net-path-total g (chain-path c) in
+            let total : Cheapest (ArcOf g) (passed c) (t .0) = subst (λ (l : List ℕ). Cheapest (ArcOf g) l (t .0)) (reverse-reverse (passed c)) (t .1) in
             let cost : d ≡ r .cost = sym (ap (λ (x : Answer). x .cost) p) in
             let y = answered q (o .ends) in
             record {
@@ -87,9 +73,11 @@ module _ {g : Net ℤ} {q : Question} {b : Buffers} where
               distinct = subst NoDup (sym is) (distinct-back (passed c) (chain-distinct c));
               few = omega (arith, ap length is, length-reverse (passed c), passed-length c, chain-few g q w (o .ends) d n c);
               walk = subst (Walk (ArcOf g) (q .source) (q .target)) cost (y .walk z d n);
-              low = λ t k. subst (λ (x : ℤ). t ≤ℤ x) cost (y .never-above z d n c t (subst (λ (l : List ℕ). Cheapest (ArcOf g) l t) turned k));
+              total = t .0;
+              cheapest = subst (λ (l : List ℕ). Cheapest (ArcOf g) (reverse l) (t .0)) (sym is) (t .1);
+              low = subst (λ (x : ℤ). t .0 ≤ℤ x) cost (y .never-above z d n c (t .0) total);
               least = λ a. subst (Least (ArcOf g) (q .source) (q .target)) cost (y .least z (admissible a) d n);
-              total = λ a t k. y .path-total z (admissible a) d n c t (subst (λ (l : List ℕ). Cheapest (ArcOf g) l t) turned k) ∙ cost;
+              meets = λ a. y .path-total z (admissible a) d n c (t .0) total ∙ cost;
             }
 
   -- of every answer with a path
@@ -101,26 +89,40 @@ module _ {g : Net ℤ} {q : Question} {b : Buffers} where
   given (farGuess p e i s t k f) h = absurd (omega (arith, h, ap (λ (x : Answer). x .length) p))
   given (ran w o) h = gives w o h
 
--- ---- no path
-module _ {g : Net ℤ} {q : Question} {b : Buffers} where
-  -- without a refusal: no path exactly where no walk leads to the target
-  pub none-exactly : {e : Buffers} {r : Answer} → Promise g q b e r → r .number ≡ 0 → (r .length ≡ 0) ↔ ((t : ℤ) → Walk (ArcOf g) (q .source) (q .target) t → ⊥)
-  none-exactly (short p e f) z = absurd (omega (arith, z, ap (λ (x : Answer). x .number) p))
-  none-exactly (outside p e i f) z = absurd (omega (arith, z, ap (λ (x : Answer). x .number) p))
-  none-exactly (noSource p e i s f) z = absurd (omega (arith, z, ap (λ (x : Answer). x .number) p))
-  none-exactly (noTarget p e i s t f) z = absurd (omega (arith, z, ap (λ (x : Answer). x .number) p))
-  none-exactly (farGuess p e i s t h f) z = absurd (omega (arith, z, ap (λ (x : Answer). x .number) p))
-  none-exactly {e} {r} (ran w o) z = (λ k. forth k (o .says), λ f. back f (o .says))
-    where
-      forth : {l : List ℕ} → r .length ≡ 0 → Says (ArcOf g) q (o .end) r l → (t : ℤ) → Walk (ArcOf g) (q .source) (q .target) t → ⊥
-      forth k (bad y p i) = absurd (omega (arith, z, ap (λ (x : Answer). x .number) p))
-      forth k (unreached y n p i) = answered q (o .ends) .unreached y n
-      forth k (reached y d n c p i) = absurd (omega (arith, k, ap (λ (x : Answer). x .length) p, ap length i, length-reverse (passed c), passed-length c))
+-- there is such a heuristic: 0 at every index, where no cost is below zero
+pub zero-modest : (g : Net ℤ) (q : Question) → ((v : ℕ) → getD (q .guess) v (pos 0) ≡ pos 0) → ((u v : ℕ) (c : ℤ) → ArcOf g u v c → pos 0 ≤ℤ c) → Modest g q
+zero-modest g q zero up = record { at-target = zero (q .target); under = λ v h t w. subst (λ (x : ℤ). x ≤ℤ t) (sym (zero v)) (walk-up up w) }
 
-      back : {l : List ℕ} → ((t : ℤ) → Walk (ArcOf g) (q .source) (q .target) t → ⊥) → Says (ArcOf g) q (o .end) r l → r .length ≡ 0
-      back f (bad y p i) = ap (λ (x : Answer). x .length) p
-      back f (unreached y n p i) = ap (λ (x : Answer). x .length) p
-      back f (reached y d n c p i) = absurd (f d (answered q (o .ends) .walk y d n))
+-- ---- no path
+-- no walk leads to the target
+abbrev NoWalk : Net ℤ → Question → Type 0
+NoWalk g q = (t : ℤ) → Walk (ArcOf g) (q .source) (q .target) t → ⊥
+
+module _ {g : Net ℤ} {q : Question} {b : Buffers} where
+  -- without a refusal: no cost and no path where no walk leads to the target; else a path, and a walk's total as the cost, not below zero
+  none-or-given : {e : Buffers} {r : Answer} → Promise g q b e r → r .number ≡ 0 → ((r ≡ without 0) × NoWalk g q) ⊎ ((pos 0 ≤ℤ r .cost) × (0 < r .length) × Walk (ArcOf g) (q .source) (q .target) (r .cost))
+  none-or-given (short p e f) z = absurd (omega (arith, z, ap (λ (x : Answer). x .number) p))
+  none-or-given (outside p e i f) z = absurd (omega (arith, z, ap (λ (x : Answer). x .number) p))
+  none-or-given (noSource p e i s f) z = absurd (omega (arith, z, ap (λ (x : Answer). x .number) p))
+  none-or-given (noTarget p e i s t f) z = absurd (omega (arith, z, ap (λ (x : Answer). x .number) p))
+  none-or-given (farGuess p e i s t h f) z = absurd (omega (arith, z, ap (λ (x : Answer). x .number) p))
+  none-or-given {e} {r} (ran w o) z = go (o .says)
+    where
+      go : {l : List ℕ} → Says (ArcOf g) q (o .end) r l → ((r ≡ without 0) × NoWalk g q) ⊎ ((pos 0 ≤ℤ r .cost) × (0 < r .length) × Walk (ArcOf g) (q .source) (q .target) (r .cost))
+      go (bad y p i) = absurd (omega (arith, z, ap (λ (x : Answer). x .number) p))
+      go (unreached y n p i) = inl (p, answered q (o .ends) .unreached y n)
+      go (reached y d n c p i) =
+          let k = got q (o .ends) (q .target) d n in
+          let cost : d ≡ r .cost = sym (ap (λ (x : Answer). x .cost) p) in
+          inr (subst (λ (x : ℤ). pos 0 ≤ℤ x) cost (k .up), omega (arith, ap (λ (x : Answer). x .length) p, ap length i, length-reverse (passed c), passed-length c), subst (Walk (ArcOf g) (q .source) (q .target)) cost (k .walk))
+
+  -- so no path exactly without a walk
+  pub none-exactly : {e : Buffers} {r : Answer} → Promise g q b e r → r .number ≡ 0 → (r .length ≡ 0) ↔ NoWalk g q
+  none-exactly {r = r} p z = elim (none-or-given p z) [ inl k ↦ (λ e. k .1, λ f. ap (λ (x : Answer). x .length) (k .0)) | inr k ↦ (λ e. absurd (omega (arith, e, k .1)), λ f. absurd (f (r .cost) (k .2))) ]
+
+  -- and cost none exactly without one
+  pub cost-none-exactly : {e : Buffers} {r : Answer} → Promise g q b e r → r .number ≡ 0 → (r .cost ≡ noneI64) ↔ NoWalk g q
+  cost-none-exactly {r = r} p z = elim (none-or-given p z) [ inl k ↦ (λ e. k .1, λ f. ap (λ (x : Answer). x .cost) (k .0)) | inr k ↦ (λ e. absurd (omega (arith, zed, e, k .0)), λ f. absurd (f (r .cost) (k .2))) ]
 
 -- ---- from the source to itself
 -- at the start the source alone is pending

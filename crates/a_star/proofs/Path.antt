@@ -12,7 +12,7 @@ use lib.IntN.{ℤ}
 use lib.ListN.{length, getD, drop, set, length-append, length-drop}
 use borrow.Author.Tests.{eq-eqb, ne-eqb}
 use Rattle.walks.specs.Pigeon.{In, here, there, NoDup}
-use Rattle.walks.specs.Chain.{Chain, source, via, hops, passed}
+use Rattle.walks.specs.Chain.{Chain, source, via, hops, passed, Path, start, onto}
 use Rattle.a_star.specs.Promise.{answerOf, written}
 use Rattle.a_star.specs.Trail.{trail, GoesBack}
 
@@ -132,11 +132,6 @@ module _ {A B : ℕ → ℕ → ℤ → Type 0} (f : (u v : ℕ) (c : ℤ) → A
   unfolding chain-over
   passed-over (source e) = refl
   passed-over {v} (via u n p l c) = ap (λ (k : List ℕ). v ∷ k) (passed-over c)
-
--- a path from s to v: its indices, each joined to the next by an arc
-pub data Path (Arc : ℕ → ℕ → ℤ → Type 0) (s : ℕ) : ℕ → List ℕ → Type 0 where
-  start : {v : ℕ} {l : List ℕ} → v ≡ s → l ≡ s ∷ [] → Path Arc s v l
-  onto : {v : ℕ} {l : List ℕ} (u : ℕ) (k : List ℕ) (c : ℤ) → Path Arc s u k → Arc u v c → l ≡ k ++ (v ∷ []) → Path Arc s v l
 
 module _ {Arc : ℕ → ℕ → ℤ → Type 0} {o : ℕ} {dist : ℕ → Option ℤ} {pred : ℕ → Option ℕ} where
   -- a chain, read from the source on

@@ -18,8 +18,9 @@ use Rattle.table.specs.Links.{present, presentBoth, arcsOf}
 use Rattle.net.specs.Net.{Net, netOf, ArcOf}
 use Rattle.rows.specs.Rows.{rowsOf}
 use Rattle.a_star.specs.Promise.{Question, questionOf, Answer, answerOf, Buffers, enough, isFair, fairAt, Fine, searchOf, Says, bad, unreached, reached, Promise, short, outside, noSource, noTarget, farGuess, ran}
+use Rattle.a_star.specs.Given.{pathIn}
 use Rattle.a_star.proofs.Settles.{end-one}
-use Rattle.a_star.proofs.Gives.{pathIn, path-front}
+use Rattle.a_star.proofs.Gives.{path-front}
 use Rattle.a_star.proofs.Literal.{literal-exactly}
 
 -- the predecessors from v back to s, v first

@@ -1,3 +1,4 @@
 pub mod Promise
 pub mod Trail
 pub mod Parts
+pub mod Given

@@ -34,6 +34,7 @@ use Rattle.dijkstra.specs.Promise as dijkstra
 use Rattle.dijkstra.proofs.Settles as dijkstra-laws
 use Rattle.a_star.specs.Promise as star
 use Rattle.a_star.proofs.Settles as star-laws
+use Rattle.a_star.specs.Given as star-given
 use Rattle.a_star.proofs.Gives as star-gives
 use Rattle.bellman_ford.specs.Promise as bellman
 use Rattle.bellman_ford.proofs.Settles as bellman-laws
@@ -235,7 +236,7 @@ module _ {g : Net ℤ} {q : star.Question} {b e : star.Buffers} {r : star.Answer
   a-star-ran w o = go (o .says)
     where
       -- a path has no index twice
-      few : (n : ℕ) → r .length ≡ length (o .path) → length (o .path) ≡ n → star-gives.pathIn e r ≡ o .path → length (o .path) ≤ width g
+      few : (n : ℕ) → r .length ≡ length (o .path) → length (o .path) ≡ n → star-given.pathIn e r ≡ o .path → length (o .path) ≤ width g
       few zero l z f = omega arith
       few (suc n) l z f = let h : 0 < r .length = omega arith in omega (arith, star-gives.given (star.ran w o) h .few, ap length f)
 

@@ -42,6 +42,7 @@ use Rattle.bellman_ford.proofs.Settles as bellman-laws
 use Rattle.floyd_warshall.specs.Promise as floyd
 use Rattle.johnson.specs.Promise as johnson
 use Rattle.a_star.specs.Promise as star
+use Rattle.a_star.specs.Given as star-given
 use Rattle.a_star.proofs.Gives as star-gives
 use Rattle.page.specs.Promise as page
 use Rattle.page.proofs.Settles as page-laws
@@ -165,13 +166,16 @@ module _ {C : Type 0} (g : Net C) where
       go d (inl w) = let f = few-hops (and-left (wholeNet g) _ l) x i (getD (nodesOf g) j 0) d h w in record { attained = λ n. w .walk; lowest = w .least; none-exactly = (λ n. absurd (omega arith), λ n. absurd (n d (w .walk))) }
       go d (inr w) = record { attained = λ n. absurd (n (w .0)); lowest = λ n s. absurd (w .1 n s); none-exactly = (λ n. w .1, λ n. w .0) }
 
--- ---- `a_star`: what a path that is given is, and when there is none (a_star, Gives); what is found, and when, is the bag's (Bag)
+-- ---- `a_star`: what a path that is given is, and when there is no path and no cost (a_star, Gives); what is found, and when, is the bag's (Bag)
 module _ {g : Net ℤ} {q : star.Question} {b e : star.Buffers} {r : star.Answer} (p : star.Promise g q b e r) where
-  pub a-star-path : 0 < r .length → star-gives.Given g q r (star-gives.pathIn e r)
+  pub a-star-path : 0 < r .length → star-given.Given g q r (star-given.pathIn e r)
   a-star-path h = star-gives.given p h
 
   pub a-star-none : r .number ≡ 0 → (r .length ≡ 0) ↔ ((t : ℤ) → Walk (ArcOf g) (q .source) (q .target) t → ⊥)
   a-star-none z = star-gives.none-exactly p z
+
+  pub a-star-cost-none : r .number ≡ 0 → (r .cost ≡ noneI64) ↔ ((t : ℤ) → Walk (ArcOf g) (q .source) (q .target) t → ⊥)
+  a-star-cost-none z = star-gives.cost-none-exactly p z
 
 -- ---- the page check: yes exactly of a page that is right, by a question that is not refused
 pub page-yes : {g : Net ℤ} {s : ℕ} {l : List ℤ} {a : page.Answer} → page.Promise g s l a → (a .yes ≡ true) ↔ ((page.enough g l ≡ true) × (insideNet g ≡ true) × (has g s ≡ true) × page.Right (ArcOf g) (g .bound) s l)
