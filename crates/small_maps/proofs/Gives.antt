@@ -27,7 +27,7 @@ use Rattle.bellman_ford.proofs.Refusals as BellmanFordPassed
 use Rattle.bellman_ford.proofs.Settles as BellmanFordLaws
 use Rattle.floyd_warshall.specs.Promise as FloydWarshall
 use Rattle.johnson.specs.Promise as Johnson
-use Rattle.small_maps.specs.Small.{starting, DijkstraGives, BellmanFordGives}
+use Rattle.small_maps.specs.Small.{starting}
 
 -- values at the first places, each as it is told
 pub starting-settled : {E : ℕ → ℤ → Type 0} (n : ℕ) (xs l : List ℤ) → length xs ≡ n → n ≤ length l → ((i : ℕ) → i < n → E i (getD xs i (pos 0))) → Settled n E l (starting xs l)
@@ -40,12 +40,13 @@ starting-settled {E} n xs l q h f =
 -- ---- dijkstra
 module _ (g : Net ℤ) (s : ℕ) (inside : insideNet g ≡ true) (source : has g s ≡ true) where
   -- 6: every distance none
-  pub dijkstra-six : BadInReach (ArcOf g) s → (b e : Dijkstra.Buffers) (no : ℕ) → Dijkstra.Promise g s b e no → Dijkstra.enough g b ≡ true → (no ≡ 6) × (e .dist ≡ filled (g .bound) noneI64 (b .dist))
-  dijkstra-six w b e k p long = let r = DijkstraLaws.promise-one p (Dijkstra.bad refl long inside source w refl) in (r .0, ap (λ (x : Dijkstra.Buffers). x .dist) (r .1))
+  pub dijkstra-six : BadInReach (ArcOf g) s → (b e : Dijkstra.Buffers) (no : ℕ) → Dijkstra.enough g b ≡ true → Dijkstra.Promise g s b e no → (no ≡ 6) × (e .dist ≡ filled (g .bound) noneI64 (b .dist))
+  dijkstra-six w b e k long p = let r = DijkstraLaws.promise-one p (Dijkstra.bad refl long inside source w refl) in (r .0, ap (λ (x : Dijkstra.Buffers). x .dist) (r .1))
 
   -- 0: the entries
-  pub dijkstra-zero : (xs : List ℤ) → length xs ≡ g .bound → (BadInReach (ArcOf g) s → ⊥) → ((v : ℕ) → v < g .bound → Entry (ArcOf g) s v (getD xs v (pos 0))) → DijkstraGives g s 0 xs
-  dijkstra-zero xs q w f b e k p long =
+  pub dijkstra-zero : (xs : List ℤ) → length xs ≡ g .bound → (BadInReach (ArcOf g) s → ⊥) → ((v : ℕ) → v < g .bound → Entry (ArcOf g) s v (getD xs v (pos 0)))
+      → (b e : Dijkstra.Buffers) (no : ℕ) → Dijkstra.enough g b ≡ true → Dijkstra.Promise g s b e no → (no ≡ 0) × (e .dist ≡ starting xs (b .dist))
+  dijkstra-zero xs q w f b e k long p =
       let room = DijkstraPassed.enough-passed g s b long inside source .dist in
       let left : Dijkstra.Buffers = record { dist = starting xs (b .dist); scratch = Dijkstra.clear g b } in
       let made : Dijkstra.Promise g s b left 0 = Dijkstra.done refl long inside source w (starting-settled (g .bound) xs (b .dist) q room f) refl in
@@ -54,12 +55,13 @@ module _ (g : Net ℤ) (s : ℕ) (inside : insideNet g ≡ true) (source : has g
 
   -- ---- bellman_ford
   -- 7: every distance none
-  pub bellman-ford-seven : NegativeFrom (ArcOf g) s → (b e : BellmanFord.Buffers) (no : ℕ) → BellmanFord.Promise g s b e no → BellmanFord.enough g b ≡ true → (no ≡ 7) × (e .dist ≡ filled (g .bound) noneI64 (b .dist))
-  bellman-ford-seven w b e k p long = let r = BellmanFordLaws.promise-one p (BellmanFord.negative refl long inside source w refl) in (r .0, ap (λ (x : BellmanFord.Buffers). x .dist) (r .1))
+  pub bellman-ford-seven : NegativeFrom (ArcOf g) s → (b e : BellmanFord.Buffers) (no : ℕ) → BellmanFord.enough g b ≡ true → BellmanFord.Promise g s b e no → (no ≡ 7) × (e .dist ≡ filled (g .bound) noneI64 (b .dist))
+  bellman-ford-seven w b e k long p = let r = BellmanFordLaws.promise-one p (BellmanFord.negative refl long inside source w refl) in (r .0, ap (λ (x : BellmanFord.Buffers). x .dist) (r .1))
 
   -- 0: the entries
-  pub bellman-ford-zero : (xs : List ℤ) → length xs ≡ g .bound → NoNeg (ArcOf g) s → ((v : ℕ) → v < g .bound → Entry (ArcOf g) s v (getD xs v (pos 0))) → BellmanFordGives g s 0 xs
-  bellman-ford-zero xs q w f b e k p long =
+  pub bellman-ford-zero : (xs : List ℤ) → length xs ≡ g .bound → NoNeg (ArcOf g) s → ((v : ℕ) → v < g .bound → Entry (ArcOf g) s v (getD xs v (pos 0)))
+      → (b e : BellmanFord.Buffers) (no : ℕ) → BellmanFord.enough g b ≡ true → BellmanFord.Promise g s b e no → (no ≡ 0) × (e .dist ≡ starting xs (b .dist))
+  bellman-ford-zero xs q w f b e k long p =
       let room = BellmanFordPassed.enough-passed g b long inside .dist in
       let left : BellmanFord.Buffers = record { dist = starting xs (b .dist); scratch = BellmanFord.clear g b } in
       let made : BellmanFord.Promise g s b left 0 = BellmanFord.done refl long inside source w (starting-settled (g .bound) xs (b .dist) q room f) refl in

@@ -10,7 +10,7 @@ use native.Mathlib.Nat.{not-suc-le-zero}
 use borrow.Author.Tests.{le-leb}
 use lib.IntN.{ℤ, pos, negsuc}
 use lib.Signed.{_≤ℤ_, _<ℤ_}
-use lib.ListN.{length, getD}
+use lib.ListN.{length, getD, replicate}
 use Rattle.whole.specs.Zed.{zed}
 use Rattle.whole.proofs.Cases.{both-of}
 use Rattle.clean.specs.Fill.{filled}
@@ -22,11 +22,18 @@ use Rattle.table.specs.Links.{linkOf, present, presentBoth, lentWhole}
 use Rattle.table.specs.Lent.{least, roomInts}
 use Rattle.table.proofs.Joins.{joins-of}
 use Rattle.table.proofs.Small as Table
-use Rattle.net.specs.Net.{ArcOf, wholeNet}
+use Rattle.net.specs.Net.{ArcOf, wholeNet, arcRoom}
+use Rattle.rows.specs.Scratch.{hasRoom}
+use Rattle.search.specs.Lists.{hasMemory}
 use Rattle.matrix.specs.Matrix.{Matrix}
 use Rattle.dijkstra.proofs.Settles.{total-up, no-negative}
 use Rattle.bellman_ford.proofs.Settles.{undirected-negative}
-use Rattle.a_star.proofs.Small as AStar
+use Rattle.dijkstra.specs.Promise as Dijkstra
+use Rattle.bellman_ford.specs.Promise as BellmanFord
+use Rattle.floyd_warshall.specs.Promise as FloydWarshall
+use Rattle.johnson.specs.Promise as Johnson
+use Rattle.a_star.specs.Promise as AStar
+use Rattle.a_star.proofs.Small as AStarSmall
 use Rattle.small_maps.specs.Small.{empty, loop, behind, pair, apart, starting, SmallMaps}
 use Rattle.small_maps.proofs.Walks.{ordered, stays, stays-or-goes}
 use Rattle.small_maps.proofs.Gives.{starting-settled, dijkstra-six, dijkstra-zero, bellman-ford-seven, bellman-ford-zero, pairs-seven, pairs-zero, floyd-warshall-room, johnson-room}
@@ -56,6 +63,11 @@ module _ {Arc : ℕ → ℕ → ℤ → Type 0} (up : (u v : ℕ) (c : ℤ) → 
 empty-whole : (d : Bool) (marks xs ys : List ℕ) (cs : List ℤ) → wholeNet (empty d marks xs ys cs) ≡ true
 unfolding lentWhole
 empty-whole d marks xs ys cs = both-of _ _ (le-leb 0 (length marks) (omega arith)) (le-leb 0 (roomInts xs ys cs) (omega arith))
+
+-- so no entries are long enough
+empty-long : (d : Bool) (marks xs ys : List ℕ) (cs : List ℤ) → FloydWarshall.enough (empty d marks xs ys cs) [] [] ≡ true
+unfolding FloydWarshall.enough
+empty-long d marks xs ys cs = both-of _ _ (empty-whole d marks xs ys cs) refl
 
 -- no arcs
 empty-up : (d : Bool) (marks xs ys : List ℕ) (cs : List ℤ) (u v : ℕ) (c : ℤ) → ArcOf (empty d marks xs ys cs) u v c → pos 0 ≤ℤ c
@@ -204,27 +216,47 @@ apart-negative = record {
   below = omega (arith, zed);
 }
 
+-- ---- buffers that are long enough for each of the maps: sixteen entries in each slice
+-- entries
+abbrev few : List ℕ
+few = replicate 16 0
+
+-- costs
+abbrev fewI : List ℤ
+fewI = replicate 16 (pos 0)
+
+-- of each question
+abbrev dijkstra-few : Dijkstra.Buffers
+dijkstra-few = Dijkstra.buffersOf fewI few few fewI few few few fewI
+
+abbrev bellman-ford-few : BellmanFord.Buffers
+bellman-ford-few = BellmanFord.buffersOf fewI few few fewI few few few
+
+abbrev johnson-few : Johnson.Scratch
+johnson-few = Johnson.scratchOf few few fewI fewI fewI few few few fewI
+
+abbrev a-star-few : AStar.Buffers
+a-star-few = AStar.buffersOf few few few fewI fewI few few few fewI
+
 -- ---- the statement
 pub small-maps : SmallMaps
-unfolding filled present presentBoth lentWhole least roomInts
+unfolding filled present presentBoth lentWhole least roomInts arcRoom hasRoom hasMemory Dijkstra.longEnough BellmanFord.longEnough FloydWarshall.enough Johnson.longEnough AStar.longEnough
 small-maps = record {
-  whole = refl;
-  empty-whole = empty-whole;
-  s1 = λ d marks xs ys cs before after ranks left k p e. pairs-zero refl [] (none-negative (empty-up d marks xs ys cs)) (empty-matrix d marks xs ys cs before) p e;
-  s2-dijkstra = dijkstra-six (loop (negsuc 0)) 0 refl refl loop-bad;
-  s2-bellman-ford = bellman-ford-seven (loop (negsuc 0)) 0 refl refl loop-negative;
-  s2-floyd-warshall = λ before after ranks left k p e. pairs-seven refl (anywhere loop-negative) p e;
-  s2-johnson = λ before after scratch left k p e. pairs-seven refl (anywhere loop-negative) p e;
-  s3-dijkstra = dijkstra-zero (loop (pos 3)) 0 refl refl (pos 0 ∷ []) refl (none-bad loop-up) loop-entry;
-  s3-bellman-ford = bellman-ford-zero (loop (pos 3)) 0 refl refl (pos 0 ∷ []) refl (no-negative (none-bad loop-up)) loop-entry;
-  s3-floyd-warshall = λ before after ranks left k p e. pairs-zero refl (pos 0 ∷ []) (none-negative loop-up) (loop-matrix before (floyd-warshall-room (loop (pos 3)) before ranks e)) p e;
-  s3-johnson = λ before after scratch left k p e. pairs-zero refl (pos 0 ∷ []) (none-negative loop-up) (loop-matrix before (johnson-room (loop (pos 3)) before scratch e)) p e;
-  s4-from-0 = dijkstra-six behind 0 refl refl behind-bad;
-  s4-from-2 = dijkstra-zero behind 2 refl refl (noneI64 ∷ noneI64 ∷ pos 0 ∷ []) refl behind-good behind-entry;
-  s5 = bellman-ford-seven pair 0 refl refl pair-negative;
-  s6-bellman-ford = bellman-ford-zero apart 0 refl refl (pos 0 ∷ pos 2 ∷ noneI64 ∷ noneI64 ∷ []) refl apart-none apart-entry;
-  s6-johnson = λ before after scratch left k p e. pairs-seven refl apart-negative p e;
-  s7 = λ b e r p long. AStar.s7 p long;
-  s8 = λ b e r p long. AStar.s8 p long;
+  s1 = λ d marks xs ys cs. ((([], []), empty-long d marks xs ys cs), λ b e no long p. pairs-zero refl [] (none-negative (empty-up d marks xs ys cs)) (empty-matrix d marks xs ys cs (b .0)) p long);
+  s2-dijkstra = ((dijkstra-few, refl), dijkstra-six (loop (negsuc 0)) 0 refl refl loop-bad);
+  s2-bellman-ford = ((bellman-ford-few, refl), bellman-ford-seven (loop (negsuc 0)) 0 refl refl loop-negative);
+  s2-floyd-warshall = (((fewI, few), refl), λ b e no long p. pairs-seven refl (anywhere loop-negative) p long);
+  s2-johnson = (((fewI, johnson-few), refl), λ b e no long p. pairs-seven refl (anywhere loop-negative) p long);
+  s3-dijkstra = ((dijkstra-few, refl), dijkstra-zero (loop (pos 3)) 0 refl refl (pos 0 ∷ []) refl (none-bad loop-up) loop-entry);
+  s3-bellman-ford = ((bellman-ford-few, refl), bellman-ford-zero (loop (pos 3)) 0 refl refl (pos 0 ∷ []) refl (no-negative (none-bad loop-up)) loop-entry);
+  s3-floyd-warshall = (((fewI, few), refl), λ b e no long p. pairs-zero refl (pos 0 ∷ []) (none-negative loop-up) (loop-matrix (b .0) (floyd-warshall-room (loop (pos 3)) (b .0) (b .1) long)) p long);
+  s3-johnson = (((fewI, johnson-few), refl), λ b e no long p. pairs-zero refl (pos 0 ∷ []) (none-negative loop-up) (loop-matrix (b .0) (johnson-room (loop (pos 3)) (b .0) (b .1) long)) p long);
+  s4-from-0 = ((dijkstra-few, refl), dijkstra-six behind 0 refl refl behind-bad);
+  s4-from-2 = ((dijkstra-few, refl), dijkstra-zero behind 2 refl refl (noneI64 ∷ noneI64 ∷ pos 0 ∷ []) refl behind-good behind-entry);
+  s5 = ((bellman-ford-few, refl), bellman-ford-seven pair 0 refl refl pair-negative);
+  s6-bellman-ford = ((bellman-ford-few, refl), bellman-ford-zero apart 0 refl refl (pos 0 ∷ pos 2 ∷ noneI64 ∷ noneI64 ∷ []) refl apart-none apart-entry);
+  s6-johnson = (((fewI, johnson-few), refl), λ b e no long p. pairs-seven refl apart-negative p long);
+  s7 = ((a-star-few, refl), λ b e r long p. AStarSmall.s7 p long);
+  s8 = ((a-star-few, refl), λ b e r long p. AStarSmall.s8 p long);
   s9 = Table.s9;
 }

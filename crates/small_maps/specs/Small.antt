@@ -1,21 +1,22 @@
 -- The small maps S1 to S9, as one statement over what the engines promise: whatever buffers are lent, if they are long enough, and whatever the promise allows.
 -- Assumes nothing.
 use mathlib.Core.Path.{_≡_}
-use mathlib.Core.Bool.{Bool, true, false, _&&_}
+use mathlib.Core.Bool.{Bool, true, false}
 use mathlib.Core.List.{List, [], _∷_, _++_}
 use Prim.Native.Nat.{ℕ}
 use lib.IntN.{ℤ, pos, negsuc}
-use lib.ListN.{length, take, drop, replicate}
+use lib.ListN.{length, drop, replicate}
 use Rattle.clean.specs.None.{noneI64}
 use Rattle.table.specs.Links.{linkOf}
 use Rattle.table.specs.Lent.{intsNow, intsPut}
 use Rattle.table.specs.Feeds.{feed}
-use Rattle.net.specs.Net.{Net, netOf, wholeNet}
+use Rattle.net.specs.Net.{Net, netOf}
 use Rattle.dijkstra.specs.Promise as Dijkstra
 use Rattle.bellman_ford.specs.Promise as BellmanFord
 use Rattle.floyd_warshall.specs.Promise as FloydWarshall
 use Rattle.johnson.specs.Promise as Johnson
 use Rattle.a_star.specs.Promise as AStar
+use Rattle.a_star.specs.Given.{pathIn}
 
 -- ---- the maps
 -- S1: no indices, and so no links, whatever the slices hold
@@ -42,41 +43,44 @@ apart = netOf 4 3 true (1 ∷ 1 ∷ 1 ∷ 1 ∷ []) (0 ∷ 2 ∷ 3 ∷ []) (1 �
 abbrev pub detour : Net ℤ
 detour = netOf 3 3 true (1 ∷ 1 ∷ 1 ∷ []) (0 ∷ 0 ∷ 1 ∷ []) (2 ∷ 1 ∷ 2 ∷ []) (pos 10 ∷ pos 1 ∷ pos 1 ∷ [])
 
--- does none of the maps pass a limit? Only then can buffers be long enough
-abbrev pub allWhole : List (Net ℤ) → Bool
-allWhole [] = true
-allWhole (g ∷ gs) = wholeNet g && allWhole gs
-
 -- ---- what an engine gives
 -- a slice with the values at its first places, the rest as it was
 abbrev pub starting : List ℤ → List ℤ → List ℤ
 starting xs l = xs ++ drop (length xs) l
 
--- from s the number k and the distances xs
+-- some buffers are long enough; and with any that are, whatever the promise allows, the number is k and xs stands in front of the slice
+abbrev pub Gives : {B : Type 0} → (B → Bool) → (B → B → ℕ → Type 0) → (B → List ℤ) → ℕ → List ℤ → Type 0
+Gives {B} long promise slice k xs =
+    ((b : B) × (long b ≡ true)) × ((b e : B) (no : ℕ) → long b ≡ true → promise b e no → (no ≡ k) × (slice e ≡ starting xs (slice b)))
+
+-- from s: the number and the distances
 abbrev pub DijkstraGives : Net ℤ → ℕ → ℕ → List ℤ → Type 0
-DijkstraGives g s k xs = (b e : Dijkstra.Buffers) (no : ℕ) → Dijkstra.Promise g s b e no → Dijkstra.enough g b ≡ true → (no ≡ k) × (e .dist ≡ starting xs (b .dist))
+DijkstraGives g s = Gives (Dijkstra.enough g) (Dijkstra.Promise g s) (λ b. b .dist)
 
 -- likewise
 abbrev pub BellmanFordGives : Net ℤ → ℕ → ℕ → List ℤ → Type 0
-BellmanFordGives g s k xs = (b e : BellmanFord.Buffers) (no : ℕ) → BellmanFord.Promise g s b e no → BellmanFord.enough g b ≡ true → (no ≡ k) × (e .dist ≡ starting xs (b .dist))
+BellmanFordGives g s = Gives (BellmanFord.enough g) (BellmanFord.Promise g s) (λ b. b .dist)
 
--- the number k and the matrix xs
+-- the number and the matrix; what is lent is a matrix and scratch
+abbrev pub MatrixGives : {S : Type 0} → (List ℤ → S → Bool) → (List ℤ → S → List ℤ → S → ℕ → Type 0) → ℕ → List ℤ → Type 0
+MatrixGives {S} long promise = Gives {B = List ℤ × S} (λ b. long (b .0) (b .1)) (λ b e. promise (b .0) (b .1) (e .0) (e .1)) (λ b. b .0)
+
 abbrev pub FloydWarshallGives : Net ℤ → ℕ → List ℤ → Type 0
-FloydWarshallGives g k xs = (before after : List ℤ) (ranks left : List ℕ) (no : ℕ) → FloydWarshall.Promise g before ranks after left no → FloydWarshall.enough g before ranks ≡ true → (no ≡ k) × (after ≡ starting xs before)
+FloydWarshallGives g = MatrixGives (FloydWarshall.enough g) (FloydWarshall.Promise g)
 
--- likewise
 abbrev pub JohnsonGives : Net ℤ → ℕ → List ℤ → Type 0
-JohnsonGives g k xs = (before after : List ℤ) (scratch left : Johnson.Scratch) (no : ℕ) → Johnson.Promise g before scratch after left no → Johnson.enough g before scratch ≡ true → (no ≡ k) × (after ≡ starting xs before)
+JohnsonGives g = MatrixGives (Johnson.enough g) (Johnson.Promise g)
 
 -- number 0, a cost and a path from s to t with the heuristic h
 abbrev pub AStarGives : Net ℤ → ℕ → ℕ → List ℤ → ℤ → List ℕ → Type 0
-AStarGives g s t h d l = (b e : AStar.Buffers) (r : AStar.Answer) → AStar.Promise g (AStar.questionOf s t h) b e r → AStar.enough g (AStar.questionOf s t h) b ≡ true → (r ≡ AStar.answerOf 0 d (length l)) × (take (r .length) (e .path) ≡ l)
+AStarGives g s t h d l =
+    let q = AStar.questionOf s t h in
+    ((b : AStar.Buffers) × (AStar.enough g q b ≡ true))
+    × ((b e : AStar.Buffers) (r : AStar.Answer) → AStar.enough g q b ≡ true → AStar.Promise g q b e r
+    → (r ≡ AStar.answerOf 0 d (length l)) × (pathIn e r ≡ l))
 
 -- ---- the statement
 pub record SmallMaps : Type 0 where
-  -- the limits are kept
-  pub whole : allWhole (loop (negsuc 0) ∷ loop (pos 3) ∷ behind ∷ pair ∷ apart ∷ detour ∷ []) ≡ true
-  pub empty-whole : (d : Bool) (marks xs ys : List ℕ) (cs : List ℤ) → wholeNet (empty d marks xs ys cs) ≡ true
   -- S1: 0, and no entry is written
   pub s1 : (d : Bool) (marks xs ys : List ℕ) (cs : List ℤ) → FloydWarshallGives (empty d marks xs ys cs) 0 []
   -- S2: 6, and 7 where negative costs are allowed
