@@ -5,3 +5,4 @@ pub mod Agree
 pub mod Exact
 pub mod Helpers
 pub mod Bag
+pub mod Premises
