@@ -17,8 +17,9 @@ use Rattle.pending.specs.Setting as Set
 use Rattle.pending.specs.OnePlace.{Cell, begin, Ends, empty, found, wrong, more}
 use Rattle.pending.proofs.Ints.{whole-laws}
 use Rattle.pending.proofs.One.{begin-ok, ends-one, ends-map}
-use Rattle.net.specs.Net.{Net, ArcOf, insideNet, has, SameNet}
+use Rattle.net.specs.Net.{Net, ArcOf, insideNet, has, sizeOf, SameNet}
 use Rattle.net.proofs.Same.{same-inside, same-size}
+use Rattle.net.proofs.Tests.{Test, fails, holds, test-one}
 use Rattle.a_star.specs.Promise.{Question, Answer, answerOf, without, Buffers, longEnough, enough, isFair, fairAt, fairBelow, fairGuess, Fine, left, searchOf, Says, bad, unreached, reached, Outcome, Promise, short, outside, noSource, noTarget, farGuess, ran}
 use Rattle.a_star.proofs.Path.{passed-one, chain-over, passed-over}
 use Rattle.a_star.proofs.Refusals.{fair-absent, fair-present, fair-stop}
@@ -54,14 +55,16 @@ says-one (reached z d n c p i) (reached z′ d′ n′ c′ p′ i′) =
     let l = i ∙ (ap reverse (passed-one c c′ refl) ∙ sym i′) in
     (p ∙ ((λ j. answerOf 0 (e j) (length (l j))) ∙ sym p′), l)
 
+-- one answer and one path, whatever the buffers
+pub outcome-path : {Arc : ℕ → ℕ → ℤ → Type 0} {m a : ℕ} {q : Question} {b b′ e f : Buffers} {r s : Answer} (o : Outcome Arc m a q b e r) (u : Outcome Arc m a q b′ f s) → (r ≡ s) × (o .path ≡ u .path)
+outcome-path {Arc} {q = q} {s = s} o u = says-one (o .says) (subst (λ (x : End ℤ). Says Arc q x s (u .path)) (end-one q (u .ends) (o .ends)) (u .says))
+
 -- one outcome
 outcome-one : {Arc : ℕ → ℕ → ℤ → Type 0} {m a : ℕ} {q : Question} {b e f : Buffers} {r s : Answer} → Outcome Arc m a q b e r → Outcome Arc m a q b f s → (r ≡ s) × (e ≡ f)
-outcome-one {Arc} {m} {a} {q} {b} {s = s} o u =
-    let k = says-one (o .says) (subst (λ (x : End ℤ). Says Arc q x s (u .path)) (end-one q (u .ends) (o .ends)) (u .says)) in
-    (k .0, o .leaves ∙ (ap (left m a b) (k .1) ∙ sym (u .leaves)))
+outcome-one {Arc} {m} {a} {q} {b} o u = let k = outcome-path o u in (k .0, o .leaves ∙ (ap (left m a b) (k .1) ∙ sym (u .leaves)))
 
 -- a search that was run gives 0 or 6
-run-number : {Arc : ℕ → ℕ → ℤ → Type 0} {m a : ℕ} {q : Question} {b e : Buffers} {r : Answer} → Outcome Arc m a q b e r → (r .number ≡ 0) ⊎ (r .number ≡ 6)
+pub run-number : {Arc : ℕ → ℕ → ℤ → Type 0} {m a : ℕ} {q : Question} {b e : Buffers} {r : Answer} → Outcome Arc m a q b e r → (r .number ≡ 0) ⊎ (r .number ≡ 6)
 run-number {Arc} {q = q} {r = r} o = go (o .says)
   where
     go : {x : End ℤ} {l : List ℕ} → Says Arc q x r l → (r .number ≡ 0) ⊎ (r .number ≡ 6)
@@ -77,45 +80,31 @@ not-run k o p f h = ⊎-elim (λ z. absurd (f (sym p ∙ z))) (λ z. absurd (h (
 not-this : {A : Type 0} {r : Answer} (j k : ℕ) → r ≡ without j → r .number ≡ k → (j ≡ k → ⊥) → A
 not-this j k p z f = other j k (ap (λ (y : Answer). y .number) p) z f
 
+module _ (g : Net ℤ) (q : Question) (b : Buffers) where
+  -- a refusal: the answer, and the buffers as lent
+  abbrev pub Refused : ℕ → Buffers → Answer → Type 0
+  Refused k e r = (r ≡ without k) × (e ≡ b)
+
+  -- the answer by the first test that fails
+  pub tests :
+      {e : Buffers} {r : Answer} → Promise g q b e r
+      → Test (enough g q b) (Refused 1 e r) (Test (insideNet g) (Refused 2 e r) (Test (has g (q .source)) (Refused 3 e r) (Test (has g (q .target)) (Refused 4 e r)
+      (Test (fairGuess g (q .guess)) (Refused 5 e r) (Outcome (ArcOf g) (g .bound) (sizeOf g) q b e r)))))
+  tests (short p e f) = fails e (p, f)
+  tests (outside p e i f) = holds e (fails i (p, f))
+  tests (noSource p e i s f) = holds e (holds i (fails s (p, f)))
+  tests (noTarget p e i s t f) = holds e (holds i (holds s (fails t (p, f))))
+  tests (farGuess p e i s t h f) = holds e (holds i (holds s (holds t (fails h (p, f)))))
+  tests (ran w o) = holds (w .enough) (holds (w .inside) (holds (w .source) (holds (w .target) (holds (w .fair) o))))
+
+-- the same answer and the same buffers
+same-both : {r s x : Answer} {e f y : Buffers} → (r ≡ x) × (e ≡ y) → (s ≡ x) × (f ≡ y) → (r ≡ s) × (e ≡ f)
+same-both p p′ = (p .0 ∙ sym (p′ .0), p .1 ∙ sym (p′ .1))
+
 module _ {g : Net ℤ} {q : Question} {b : Buffers} where
   -- the answer and every buffer
   pub promise-one : {e f : Buffers} {r s : Answer} → Promise g q b e r → Promise g q b f s → (r ≡ s) × (e ≡ f)
-  promise-one (short p e f) (short p′ e′ f′) = (p ∙ sym p′, f ∙ sym f′)
-  promise-one (short p e f) (outside p′ e′ i′ f′) = absurd (clash e′ e)
-  promise-one (short p e f) (noSource p′ e′ i′ s′ f′) = absurd (clash e′ e)
-  promise-one (short p e f) (noTarget p′ e′ i′ s′ t′ f′) = absurd (clash e′ e)
-  promise-one (short p e f) (farGuess p′ e′ i′ s′ t′ h′ f′) = absurd (clash e′ e)
-  promise-one (short p e f) (ran w o) = absurd (clash (w .enough) e)
-  promise-one (outside p e i f) (short p′ e′ f′) = absurd (clash e e′)
-  promise-one (outside p e i f) (outside p′ e′ i′ f′) = (p ∙ sym p′, f ∙ sym f′)
-  promise-one (outside p e i f) (noSource p′ e′ i′ s′ f′) = absurd (clash i′ i)
-  promise-one (outside p e i f) (noTarget p′ e′ i′ s′ t′ f′) = absurd (clash i′ i)
-  promise-one (outside p e i f) (farGuess p′ e′ i′ s′ t′ h′ f′) = absurd (clash i′ i)
-  promise-one (outside p e i f) (ran w o) = absurd (clash (w .inside) i)
-  promise-one (noSource p e i s f) (short p′ e′ f′) = absurd (clash e e′)
-  promise-one (noSource p e i s f) (outside p′ e′ i′ f′) = absurd (clash i i′)
-  promise-one (noSource p e i s f) (noSource p′ e′ i′ s′ f′) = (p ∙ sym p′, f ∙ sym f′)
-  promise-one (noSource p e i s f) (noTarget p′ e′ i′ s′ t′ f′) = absurd (clash s′ s)
-  promise-one (noSource p e i s f) (farGuess p′ e′ i′ s′ t′ h′ f′) = absurd (clash s′ s)
-  promise-one (noSource p e i s f) (ran w o) = absurd (clash (w .source) s)
-  promise-one (noTarget p e i s t f) (short p′ e′ f′) = absurd (clash e e′)
-  promise-one (noTarget p e i s t f) (outside p′ e′ i′ f′) = absurd (clash i i′)
-  promise-one (noTarget p e i s t f) (noSource p′ e′ i′ s′ f′) = absurd (clash s s′)
-  promise-one (noTarget p e i s t f) (noTarget p′ e′ i′ s′ t′ f′) = (p ∙ sym p′, f ∙ sym f′)
-  promise-one (noTarget p e i s t f) (farGuess p′ e′ i′ s′ t′ h′ f′) = absurd (clash t′ t)
-  promise-one (noTarget p e i s t f) (ran w o) = absurd (clash (w .target) t)
-  promise-one (farGuess p e i s t h f) (short p′ e′ f′) = absurd (clash e e′)
-  promise-one (farGuess p e i s t h f) (outside p′ e′ i′ f′) = absurd (clash i i′)
-  promise-one (farGuess p e i s t h f) (noSource p′ e′ i′ s′ f′) = absurd (clash s s′)
-  promise-one (farGuess p e i s t h f) (noTarget p′ e′ i′ s′ t′ f′) = absurd (clash t t′)
-  promise-one (farGuess p e i s t h f) (farGuess p′ e′ i′ s′ t′ h′ f′) = (p ∙ sym p′, f ∙ sym f′)
-  promise-one (farGuess p e i s t h f) (ran w o) = absurd (clash (w .fair) h)
-  promise-one (ran w o) (short p e f) = absurd (clash (w .enough) e)
-  promise-one (ran w o) (outside p e i f) = absurd (clash (w .inside) i)
-  promise-one (ran w o) (noSource p e i s f) = absurd (clash (w .source) s)
-  promise-one (ran w o) (noTarget p e i s t f) = absurd (clash (w .target) t)
-  promise-one (ran w o) (farGuess p e i s t h f) = absurd (clash (w .fair) h)
-  promise-one (ran w o) (ran w′ o′) = outcome-one o o′
+  promise-one p p′ = test-one same-both (test-one same-both (test-one same-both (test-one same-both (test-one same-both outcome-one)))) (tests g q b p) (tests g q b p′)
 
   -- ---- each number, exactly when its condition holds
   module _ {e : Buffers} {r : Answer} where

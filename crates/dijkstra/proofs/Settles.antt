@@ -31,7 +31,7 @@ use Rattle.dijkstra.proofs.Answers.{KeptScratch, scratch-same, scratch-
 -- ---- two answers that the promise allows are equal
 module _ (g : Net ℤ) (s : ℕ) (b : Buffers) where
   -- after the tests: a stop, or done
-  abbrev After : Buffers → ℕ → Type 0
+  abbrev pub After : Buffers → ℕ → Type 0
   After e n = ((n ≡ 6) × (e ≡ blank g b) × BadInReach (ArcOf g) s) ⊎ ((n ≡ 0) × (BadInReach (ArcOf g) s → ⊥) × Settled (g .bound) (Entry (ArcOf g) s) (b .dist) (e .dist) × (e .scratch ≡ clear g b))
 
   after-one : {e e′ : Buffers} {no no′ : ℕ} → After e no → After e′ no′ → (no ≡ no′) × (e ≡ e′)
@@ -40,7 +40,8 @@ module _ (g : Net ℤ) (s : ℕ) (b : Buffers) where
   after-one (inr x) (inl y) = absurd (x .1 (y .2))
   after-one (inr x) (inr y) = (x .0 ∙ sym (y .0), λ j. record { dist = settled-one (pos 0) (λ v k x y. entry-one) (x .2) (y .2) j; scratch = (x .3 ∙ sym (y .3)) j })
 
-  tests : {e : Buffers} {no : ℕ} → Promise g s b e no → Test (enough g b) ((no ≡ 1) × (e ≡ b)) (Test (insideNet g) ((no ≡ 2) × (e ≡ b)) (Test (has g s) ((no ≡ 3) × (e ≡ b)) (After e no)))
+  -- the answer by the first test that fails
+  pub tests : {e : Buffers} {no : ℕ} → Promise g s b e no → Test (enough g b) ((no ≡ 1) × (e ≡ b)) (Test (insideNet g) ((no ≡ 2) × (e ≡ b)) (Test (has g s) ((no ≡ 3) × (e ≡ b)) (After e no)))
   tests (short n p q) = fails p (n, q)
   tests (outside n p i q) = holds p (fails i (n, q))
   tests (unknown n p i h q) = holds p (holds i (fails h (n, q)))

@@ -39,12 +39,12 @@ answers-one {m} {x} {y} {b} {e} {e′} q p p′ =
     (settled-one noneF64 (λ i h u v a c. a ∙ sym c) (r .dist) (p′ .dist), settled-one noneU32 (λ i h u v a c. a ∙ sym c) (r .preds) (p′ .preds))
 
 -- one number is not two
-split : {g : Net FloatCost} {s : ℕ} {k : Cutoff} {x y : End ℕ} → EndsIn g s k x → x .number ≡ 6 → EndsIn g s k y → y .number ≡ 0 → ⊥
+pub split : {g : Net FloatCost} {s : ℕ} {k : Cutoff} {x y : End ℕ} → EndsIn g s k x → x .number ≡ 6 → EndsIn g s k y → y .number ≡ 0 → ⊥
 split {x = x} {y = y} p a q b = let c : x .number ≡ y .number = ap (λ (z : End ℕ). z .number) (one-end p q) in omega (arith, a, b, c)
 
 module _ (g : Net FloatCost) (s : ℕ) (k : Cutoff) (b : Buffers) where
   -- after the tests: a bad cost, or done
-  abbrev After : Buffers → ℕ → Type 0
+  abbrev pub After : Buffers → ℕ → Type 0
   After e n =
       ((n ≡ 6) × (e ≡ blank g b) × (x : End ℕ) × EndsIn g s k x × (x .number ≡ 6))
       ⊎ ((n ≡ 0) × (e ≡ left g b (e .dist) (e .preds)) × (x : End ℕ) × EndsIn g s k x × (x .number ≡ 0) × Answers (g .bound) x b e)
@@ -55,7 +55,8 @@ module _ (g : Net FloatCost) (s : ℕ) (k : Cutoff) (b : Buffers) where
   after-one (inr x) (inl y) = absurd (split (y .3) (y .4) (x .3) (x .4))
   after-one (inr x) (inr y) = let o = answers-one (one-end (x .3) (y .3)) (x .5) (y .5) in (x .0 ∙ sym (y .0), x .1 ∙ ((λ i. left g b (o .0 i) (o .1 i)) ∙ sym (y .1)))
 
-  tests : {e : Buffers} {no : ℕ} → Promise g s k b e no → Test (enough g b) ((no ≡ 1) × (e ≡ b)) (Test (insideNet g) ((no ≡ 2) × (e ≡ b)) (Test (has g s) ((no ≡ 3) × (e ≡ b)) (After e no)))
+  -- the answer by the first test that fails
+  pub tests : {e : Buffers} {no : ℕ} → Promise g s k b e no → Test (enough g b) ((no ≡ 1) × (e ≡ b)) (Test (insideNet g) ((no ≡ 2) × (e ≡ b)) (Test (has g s) ((no ≡ 3) × (e ≡ b)) (After e no)))
   tests (short n p q) = fails p (n, q)
   tests (outside n p i q) = holds p (fails i (n, q))
   tests (absent n p i h q) = holds p (holds i (fails h (n, q)))

@@ -24,6 +24,7 @@ use Rattle.net.specs.Net.{Net, LeadsOf, linksOf, has, rising, nodesOf, width, w
 use Rattle.net.proofs.Nodes.{rising-same, member, present-in}
 use Rattle.net.proofs.Same.{leads-has, same-leads}
 use Rattle.net.proofs.Bounds.{Whole, width-small}
+use Rattle.net.proofs.Tests.{Test, fails, holds, test-one}
 use Rattle.matrix.proofs.Matrix.{place}
 use Rattle.hops.specs.Steps.{Steps, stay, step, LeastSteps, Entry}
 use Rattle.hops.specs.Promise.{Buffers, Matrix, enough, longEnough, left, Promise, short, outside, done}
@@ -40,18 +41,32 @@ matrix-one g b x y p q = ext-getD 0 x y (p .long ∙ sym (q .long)) (λ i h. at 
         subst (λ (z : ℕ). getD x z 0 ≡ getD y z 0) (k .at) (entry-one (p .each (k .i) (k .j) (k .row) (k .column)) (q .each (k .i) (k .j) (k .row) (k .column)))
     at i (no f) = rest-at (width g * width g) x y 0 i (p .rest ∙ sym (q .rest)) (omega (arith, f))
 
+module _ {C : Type 0} (g : Net C) (b : Buffers) where
+  -- a refusal: the number, no nodes, and the buffers as lent
+  abbrev pub Refused : ℕ → Buffers → ℕ → ℕ → Type 0
+  Refused k e n p = (n ≡ k) × (p ≡ 0) × (e ≡ b)
+
+  -- after the tests
+  abbrev pub After : Buffers → ℕ → ℕ → Type 0
+  After e n p = (n ≡ 0) × (p ≡ width g) × Matrix g (b .matrix) (e .matrix) × (e ≡ left g b (e .matrix))
+
+  -- the answer by the first test that fails
+  pub tests : {e : Buffers} {no p : ℕ} → Promise g b e no p → Test (enough g b) (Refused 1 e no p) (Test (insideNet g) (Refused 2 e no p) (After e no p))
+  tests (short n c p q) = fails p (n, c, q)
+  tests (outside n c p i q) = holds p (fails i (n, c, q))
+  tests (done n c p i x q) = holds p (holds i (n, c, x, q))
+
+-- the same number, length and buffers
+same-three : {no no′ n p p′ k : ℕ} {e e′ x : Buffers} → (no ≡ n) × (p ≡ k) × (e ≡ x) → (no′ ≡ n) × (p′ ≡ k) × (e′ ≡ x) → (no ≡ no′) × (p ≡ p′) × (e ≡ e′)
+same-three x y = (x .0 ∙ sym (y .0), x .1 ∙ sym (y .1), x .2 ∙ sym (y .2))
+
 module _ {C : Type 0} {g : Net C} {b : Buffers} where
   -- the number, p and every buffer, the outputs and the scratch
   pub promise-one : {e e′ : Buffers} {no no′ p p′ : ℕ} → Promise g b e no p → Promise g b e′ no′ p′ → (no ≡ no′) × (p ≡ p′) × (e ≡ e′)
-  promise-one (short n c p q) (short n′ c′ p′ q′) = (n ∙ sym n′, c ∙ sym c′, q ∙ sym q′)
-  promise-one (short n c p q) (outside n′ c′ p′ i′ q′) = absurd (clash p′ p)
-  promise-one (short n c p q) (done n′ c′ p′ i′ x′ q′) = absurd (clash p′ p)
-  promise-one (outside n c p i q) (short n′ c′ p′ q′) = absurd (clash p p′)
-  promise-one (outside n c p i q) (outside n′ c′ p′ i′ q′) = (n ∙ sym n′, c ∙ sym c′, q ∙ sym q′)
-  promise-one (outside n c p i q) (done n′ c′ p′ i′ x′ q′) = absurd (clash i′ i)
-  promise-one (done n c p i x q) (short n′ c′ p′ q′) = absurd (clash p p′)
-  promise-one (done n c p i x q) (outside n′ c′ p′ i′ q′) = absurd (clash i i′)
-  promise-one (done n c p i x q) (done n′ c′ p′ i′ x′ q′) = (n ∙ sym n′, c ∙ sym c′, q ∙ (ap (left g b) (matrix-one g (b .matrix) _ _ x x′) ∙ sym q′))
+  promise-one p q =
+      test-one same-three (test-one same-three
+      (λ x y. (x .0 ∙ sym (y .0), x .1 ∙ sym (y .1), x .3 ∙ (ap (left g b) (matrix-one g (b .matrix) _ _ (x .2) (y .2)) ∙ sym (y .3)))))
+      (tests g b p) (tests g b q)
 
   -- ---- each number is given exactly when 01 says
   module _ {e : Buffers} {no p : ℕ} where
