@@ -1,4 +1,5 @@
 pub mod Maps
+pub mod Used
 pub mod Distance
 pub mod Exact
 pub mod Demand1
