@@ -10,7 +10,7 @@ use lib.ListN.{length, getD, drop, set, length-set}
 use lib.Seq.{getD-set-same, getD-set-other}
 use Rattle.clean.specs.Fill.{filled}
 use Rattle.clean.proofs.Filled.{filled-length, filled-at, filled-rest}
-use Rattle.matrix.proofs.Matrix.{row-before}
+use Rattle.matrix.proofs.Matrix.{row-in, row-before}
 use Rattle.hops.specs.Steps.{Entry}
 use Rattle.hops.specs.Search.{labelOf, sizeAfter, shownOf, Fresh, Searched, CanShow, RowShown, CanRow, RowMade, CanFill, Filled}
 

@@ -71,6 +71,12 @@ module _ {A : Type 0} where
       ext-getD d (take n k) (take n l) (long ∙ sym (length-take-le n l q))
       (λ i h. getD-take n k i d (omega (arith, long)) ∙ (f i (omega (arith, long)) ∙ sym (getD-take n l i d (omega (arith, long)))))
 
+  -- in each row and column
+  part-square : (p : ℕ) (d : A) (x y : List A) → p * p ≤ length x → p * p ≤ length y → ((i j : ℕ) → i < p → j < p → getD x (i * p + j) d ≡ getD y (i * p + j) d) → take (p * p) x ≡ take (p * p) y
+  part-square p d x y l l′ f =
+      part-each (p * p) d x y l l′ (λ i h. let k = place p i h in subst (λ (z : ℕ). getD x z d ≡ getD y z d) (k .at) (f (k .i) (k .j) (k .row) (k .column)))
+
+  -- the one value that is allowed there
   part-settled : {n : ℕ} {E : ℕ → A → Type 0} {b b′ e e′ : List A} (d : A) → ((i : ℕ) → i < n → (x y : A) → E i x → E i y → x ≡ y) → n ≤ length b → n ≤ length b′ → Settled n E b e
       → Settled n E b′ e′ → take n e ≡ take n e′
   part-settled {n} {e = e} {e′ = e′} d one l l′ p q =
@@ -245,12 +251,7 @@ module _ (g : Net ℤ) (q : star.Question) (b b′ : star.Buffers) where
 -- ---- `floyd_warshall` and `johnson`
 -- two matrices of least totals hold the same in the part used
 matrix-part : (g : Net ℤ) (b b′ x y : List ℤ) → square g ≤ length b → square g ≤ length b′ → Matrix g b x → Matrix g b′ y → take (square g) x ≡ take (square g) y
-matrix-part g b b′ x y l l′ p q = part-each (square g) (pos 0) x y (omega (arith, l, p .long)) (omega (arith, l′, q .long)) at
-  where
-    at : (i : ℕ) → i < square g → getD x i (pos 0) ≡ getD y i (pos 0)
-    at i h =
-        let k = place (width g) i h in
-        subst (λ (z : ℕ). getD x z (pos 0) ≡ getD y z (pos 0)) (k .at) (entry-one (p .each (k .i) (k .j) (k .row) (k .column)) (q .each (k .i) (k .j) (k .row) (k .column)))
+matrix-part g b b′ x y l l′ p q = part-square (width g) (pos 0) x y (omega (arith, l, p .long)) (omega (arith, l′, q .long)) (λ i j h k. entry-one (p .each i j h k) (q .each i j h k))
 
 module _ {S : Type 0} (g : Net ℤ) (long : Bool) (lent clear : S) (before : List ℤ) where
   -- a refusal, and what is left after the tests
@@ -314,12 +315,7 @@ johnson-memory g m m′ s s′ e p q = pairs-memory g (johnsonUsed (g .bound) (s
 module _ {C : Type 0} (g : Net C) (b b′ : hops.Buffers) where
   hops-part : (x y : List ℕ) → width g * width g ≤ length (b .matrix) → width g * width g ≤ length (b′ .matrix) → hops.Matrix g (b .matrix) x → hops.Matrix g (b′ .matrix) y
       → take (width g * width g) x ≡ take (width g * width g) y
-  hops-part x y l l′ p q = part-each (width g * width g) 0 x y (omega (arith, l, p .long)) (omega (arith, l′, q .long)) at
-    where
-      at : (i : ℕ) → i < width g * width g → getD x i 0 ≡ getD y i 0
-      at i h =
-          let k = place (width g) i h in
-          subst (λ (z : ℕ). getD x z 0 ≡ getD y z 0) (k .at) (hops-steps.entry-one (p .each (k .i) (k .j) (k .row) (k .column)) (q .each (k .i) (k .j) (k .row) (k .column)))
+  hops-part x y l l′ p q = part-square (width g) 0 x y (omega (arith, l, p .long)) (omega (arith, l′, q .long)) (λ i j h k. hops-steps.entry-one (p .each i j h k) (q .each i j h k))
 
   hops-left : (x y : List ℕ) → take (width g * width g) x ≡ take (width g * width g) y
       → hopsUsed (g .bound) (sizeOf g) (width g) (hops.left g b x) ≡ hopsUsed (g .bound) (sizeOf g) (width g) (hops.left g b′ y)

@@ -1,26 +1,30 @@
 -- Demand 3 for tables of both kinds, directed or not.
--- `holds-lasts`: a feed into an empty table, no put of which gives 8, leaves the map of the last accepted records: no link stands twice, the
--- count is the number of links accepted, and the arcs are those of their last records. `same-maps`: so two feeds with the same last
--- accepted record of each link leave maps that no engine can tell apart, whatever the order, the refused records, the lengths of the
--- slices, what stands past the count, and the bytes of marks.
--- A record that is refused changes nothing (`untouched-ints`, `untouched-floats` in Stores), and is not an accepted one.
--- The argument: the slices follow the table that they show (Slices), each put does to its links what `putList` does (Puts), and a list
--- fed from nothing has each link once, at the cost of its last record (Feed).
+-- `holds-lasts`: a feed into an empty table leaves the map of the last accepted records: no link stands twice, the count is the number of links
+-- accepted, and the arcs are those of their last records. `same-maps`: so two feeds with the same last accepted record of each link leave maps
+-- that no engine can tell apart, whatever the order, the refused records, the lengths of the slices, what stands past the count, and the bytes
+-- of marks. Both hold of every feed from count 0: accepted is a record whose put gave 0, so a put that gives 8 is refused like any other, and
+-- where the bound is over its limit or the marks are too few each put gives 1 (`next-one`), none is accepted and the table stays empty.
+-- A record that is refused changes nothing (`untouched-ints`, `untouched-floats` in Stores).
+-- The argument: the slices follow the table that they show (Slices), each put that gives 0 does to its links what `putList` does, and each
+-- other leaves them (Puts), and a list fed from nothing has each link once, at the cost of its last record (Feed).
 -- Assumes nothing.
 use mathlib.Core.Path.{_≡_, refl, sym, ap, _∙_, subst}
-use mathlib.Core.Bool.{Bool, true, false, cond}
-use mathlib.Core.Logic.{_↔_}
-use mathlib.Core.List.{List, [], _∷_, map}
-use Prim.Native.Nat.{ℕ}
+use mathlib.Core.Bool.{Bool, true, false, cond, _&&_}
+use mathlib.Core.Logic.{inr, ⊎-elim, _↔_}
+use mathlib.Core.List.{List, [], _∷_, _++_, map}
+use Prim.Native.Nat.{ℕ, _≤_}
+use native.Mathlib.Omega.{arith}
+use borrow.Author.Tests.{le-leb}
+use lib.Dec.{leb, eqb}
 use lib.IntN.{ℤ}
 use lib.ListN.{length, take}
-use Rattle.table.specs.Links.{Link, inside, tableNo, Arc, Leads}
+use Rattle.table.specs.Links.{Link, inside, allInside, lentWhole, placing, Arc, Leads}
 use Rattle.table.specs.Lent.{RawCost, Ints, Floats}
-use Rattle.table.specs.Feeds.{feed, NeverFull, accepted, Single, Kind, ints, floats, Feed, fed, heldBy, acceptedBy, lastsOf, wholeAfter, FromEmpty, HoldsLasts, SameFeeds, SameMaps}
-use Rattle.table.proofs.Laws.{whole-of-no}
-use Rattle.table.proofs.Tables.{putList, feedInto, costOf, Table, putTable, held, after, NotFull}
+use Rattle.table.specs.Feeds.{feed, accepted, Single, Kind, ints, floats, Feed, fed, heldBy, acceptedBy, lastsOf, wholeAfter, HoldsLasts, SameFeeds, SameMaps}
+use Rattle.table.proofs.Numbers.{put-one-exactly, put-two-exactly}
+use Rattle.table.proofs.Tables.{putList, feedInto, costOf, Table, store, putTable, held, after, acceptedInto}
 use Rattle.table.proofs.Puts.{Sound, held-long, put-step}
-use Rattle.table.proofs.Feed.{single-feed, single-lasts, cost-lasts, same-length, same-arcs, fed-lasts}
+use Rattle.table.proofs.Feed.{not-both, single-feed, single-lasts, same-length, same-arcs, same-costs, fed-lasts}
 use Rattle.table.proofs.Slices.{tableOf, Follows, follows-ints, follows-floats}
 
 -- ---- a feed into a table
@@ -28,19 +32,21 @@ module _ {C : Type 0} (d : Bool) (m room : ℕ) (marks : List ℕ) where
   -- it leaves a sound table with the links of the accepted records
   record FedTable (t t′ : Table C) (rs : List (Link C)) : Type 0 where
     pub sound : Sound m room marks t′
-    pub holds : held t′ ≡ feedInto d (held t) (accepted m marks rs)
+    pub holds : held t′ ≡ feedInto d (held t) (acceptedInto d m room marks t rs)
 
   -- by induction on the records
-  fed-table : (rs : List (Link C)) (t : Table C) → Sound m room marks t → NotFull d m room marks t rs → FedTable t (after d m room marks t rs) rs
-  fed-table [] t s f = record { sound = s; holds = refl }
-  fed-table (r ∷ rs) t s f =
-      let p = put-step d m room marks r t s (f .0) in
-      let q = fed-table rs (putTable d m room marks r t) (p .sound) (f .1) in
-      record { sound = q .sound; holds = q .holds ∙ (ap (λ (l : List (Link C)). feedInto d l (accepted m marks rs)) (p .holds) ∙ sym (go (inside m marks r))) }
+  fed-table : (rs : List (Link C)) (t : Table C) → Sound m room marks t → FedTable t (after d m room marks t rs) rs
+  fed-table [] t s = record { sound = s; holds = refl }
+  fed-table (r ∷ rs) t s =
+      let t′ = putTable d m room marks r t in
+      let p = put-step d m room marks r t s in
+      let q = fed-table rs t′ (p .sound) in
+      let a = acceptedInto d m room marks t′ rs in
+      record { sound = q .sound; holds = q .holds ∙ (ap (λ (l : List (Link C)). feedInto d l a) (p .holds) ∙ sym (go (eqb (t′ .no) 0) a)) }
     where
-      go : (x : Bool) → feedInto d (held t) (cond x (r ∷ accepted m marks rs) (accepted m marks rs)) ≡ feedInto d (cond x (putList d r (held t)) (held t)) (accepted m marks rs)
-      go true = refl
-      go false = refl
+      go : (x : Bool) (l : List (Link C)) → feedInto d (held t) (cond x (r ∷ []) [] ++ l) ≡ feedInto d (cond x (putList d r (held t)) (held t)) l
+      go true l = refl
+      go false l = refl
 
 -- ---- a feed into lent slices
 module _ {C R S : Type 0} (k : Kind C R S) (l : Follows k) (d : Bool) (m : ℕ) (marks : List ℕ) where
@@ -49,33 +55,49 @@ module _ {C R S : Type 0} (k : Kind C R S) (l : Follows k) (d : Bool) (m : ℕ) 
   feed-room [] s = refl
   feed-room (r ∷ rs) s = feed-room rs (k .put d m marks r s) ∙ l .keeps d m marks r s
 
-  -- it follows the feed into the table that they show
+  -- a put follows the put into the table that they show
+  put-shows : (r : R) (s : S) (n : ℕ) → k .room s ≡ n → tableOf k (k .put d m marks r s) ≡ putTable d m n marks (k .seen r) (tableOf k s)
+  put-shows r s n e = l .shows d m marks r s ∙ ap (λ (n : ℕ). putTable d m n marks (k .seen r) (tableOf k s)) e
+
+  -- so does a feed
   feed-shows : (rs : List R) (s : S) (n : ℕ) → k .room s ≡ n → tableOf k (feed (k .put d m marks) s rs) ≡ after d m n marks (tableOf k s) (map (k .seen) rs)
   feed-shows [] s n e = refl
   feed-shows (r ∷ rs) s n e =
       feed-shows rs (k .put d m marks r s) n (l .keeps d m marks r s ∙ e)
-      ∙ ap (λ (t : Table C). after d m n marks t (map (k .seen) rs)) (l .shows d m marks r s ∙ ap (λ (n : ℕ). putTable d m n marks (k .seen r) (tableOf k s)) e)
+      ∙ ap (λ (t : Table C). after d m n marks t (map (k .seen) rs)) (put-shows r s n e)
 
-  -- no put gives 8 there either
-  full-shows : (rs : List R) (s : S) (n : ℕ) → k .room s ≡ n → NeverFull (k .put d m marks) (k .number) s rs → NotFull d m n marks (tableOf k s) (map (k .seen) rs)
-  full-shows [] s n e f = tt
-  full-shows (r ∷ rs) s n e f =
-      let q = l .shows d m marks r s ∙ ap (λ (n : ℕ). putTable d m n marks (k .seen r) (tableOf k s)) e in
-      (λ z. f .0 (ap (λ (t : Table C). t .no) q ∙ z), subst (λ (t : Table C). NotFull d m n marks t (map (k .seen) rs)) q (full-shows rs (k .put d m marks r s) n (l .keeps d m marks r s ∙ e) (f .1)))
+  -- and the same records are accepted
+  accepted-shows : (rs : List R) (s : S) (n : ℕ) → k .room s ≡ n → map (k .seen) (accepted (k .put d m marks) (k .number) s rs) ≡ acceptedInto d m n marks (tableOf k s) (map (k .seen) rs)
+  accepted-shows [] s n e = refl
+  accepted-shows (r ∷ rs) s n e =
+      let q = put-shows r s n e in
+      go (eqb (k .number (k .put d m marks r s)) 0) (accepted (k .put d m marks) (k .number) (k .put d m marks r s) rs)
+      ∙ ((λ i. cond (eqb (q i .no) 0) (k .seen r ∷ []) [] ++ accepted-shows rs (k .put d m marks r s) n (l .keeps d m marks r s ∙ e) i)
+      ∙ ap (λ (t : Table C). cond (eqb (putTable d m n marks (k .seen r) (tableOf k s) .no) 0) (k .seen r ∷ []) [] ++ acceptedInto d m n marks t (map (k .seen) rs)) q)
+    where
+      go : (x : Bool) (a : List R) → map (k .seen) (cond x (r ∷ []) [] ++ a) ≡ cond x (k .seen r ∷ []) [] ++ map (k .seen) a
+      go true a = refl
+      go false a = refl
 
-module _ {C R S : Type 0} (k : Kind C R S) (l : Follows k) (f : Feed R S) (e : FromEmpty k f) where
+-- the limits of a table whose count is within its room are those of the bound and the marks
+pub limits : (m n room : ℕ) (marks : List ℕ) → n ≤ room → lentWhole m n room marks ≡ lentWhole m 0 0 marks
+unfolding lentWhole
+limits m n room marks h = rw (le-leb n room h)
+
+module _ {C R S : Type 0} (k : Kind C R S) (l : Follows k) (f : Feed R S) (e : k .count (f .lent) ≡ 0) where
   -- the table that the feed leaves
   fed-shown : FedTable (f .directed) (f .bound) (k .room (f .lent)) (f .marks) (tableOf k (f .lent)) (tableOf k (fed k f)) (map (k .seen) (f .records))
   fed-shown =
       subst (λ (t : Table C). FedTable (f .directed) (f .bound) (k .room (f .lent)) (f .marks) (tableOf k (f .lent)) t (map (k .seen) (f .records)))
       (sym (feed-shows k l (f .directed) (f .bound) (f .marks) (f .records) (f .lent) _ refl))
       (fed-table (f .directed) (f .bound) (k .room (f .lent)) (f .marks) (map (k .seen) (f .records)) (tableOf k (f .lent))
-      (record { good = e .good; roomy = l .roomy (f .lent) })
-      (full-shows k l (f .directed) (f .bound) (f .marks) (f .records) (f .lent) _ refl (e .room)))
+      (record { few = omega (arith, e); inside = ap (λ (n : ℕ). allInside (f .bound) (f .marks) (take n (k .places (f .lent)))) e; roomy = l .roomy (f .lent) }))
 
   -- its links are those of the accepted records, fed from nothing
   holds-fed : heldBy k f ≡ feedInto (f .directed) [] (acceptedBy k f)
-  holds-fed = fed-shown .holds ∙ ap (λ (n : ℕ). feedInto (f .directed) (take n (k .places (f .lent))) (acceptedBy k f)) (e .empty)
+  holds-fed =
+      fed-shown .holds
+      ∙ (λ i. feedInto (f .directed) (take (e i) (k .places (f .lent))) (sym (accepted-shows k l (f .directed) (f .bound) (f .marks) (f .records) (f .lent) _ refl) i))
 
   -- no link stands twice
   held-single : Single (f .directed) (heldBy k f)
@@ -89,53 +111,76 @@ module _ {C R S : Type 0} (k : Kind C R S) (l : Follows k) (f : Feed R S) (e : F
   held-count : length (heldBy k f) ≡ k .count (fed k f)
   held-count = held-long (f .bound) (k .room (f .lent)) (f .marks) (tableOf k (fed k f)) (fed-shown .sound)
 
+  -- the room is the one lent, so the limits are kept if the bound and the marks keep theirs
+  fed-limits : wholeAfter k f ≡ lentWhole (f .bound) 0 0 (f .marks)
+  fed-limits = limits (f .bound) (k .count (fed k f)) (k .room (fed k f)) (f .marks) (omega (arith, feed-room k l (f .directed) (f .bound) (f .marks) (f .records) (f .lent), fed-shown .sound .few))
+
   -- the map of the last accepted records
   pub holds-lasts : HoldsLasts k f
   holds-lasts =
       record {
-        good = ap (λ (n : ℕ). tableNo (f .bound) (k .count (fed k f)) n (f .marks) (k .places (fed k f))) (feed-room k l (f .directed) (f .bound) (f .marks) (f .records) (f .lent)) ∙ fed-shown .sound .good;
+        limits = fed-limits;
+        inside = fed-shown .sound .inside;
         once = held-single;
         counted = sym held-count ∙ same-length (f .directed) (heldBy k f) (lastsOf k f) held-single (single-lasts (f .directed) (acceptedBy k f)) held-costs;
         arcs = same-arcs (f .directed) (heldBy k f) (lastsOf k f) held-single (single-lasts (f .directed) (acceptedBy k f)) held-costs;
       }
 
-  -- its limits are kept
-  fed-whole : wholeAfter k f ≡ true
-  fed-whole = whole-of-no (f .bound) (k .count (fed k f)) (k .room (fed k f)) (f .marks) (k .places (fed k f)) (holds-lasts .good)
+  -- ---- what the next put gives, whatever was put before
+  module _ (r : R) where
+    next-number :
+        k .number (k .put (f .directed) (f .bound) (f .marks) r (fed k f))
+        ≡ placing (f .directed) (f .bound) (k .room (fed k f)) (f .marks) (k .seen r .a) (k .seen r .b) (k .count (fed k f)) (k .places (fed k f)) .no
+    unfolding store
+    next-number = ap (λ (t : Table C). t .no) (l .shows (f .directed) (f .bound) (f .marks) r (fed k f))
 
--- lists of one length with the same arcs
-record Alike {C : Type 0} (d d′ : Bool) (ls ks : List (Link C)) : Type 0 where
-  pub long : length ls ≡ length ks
-  pub arcs : (u v : ℕ) (c : C) → Arc d ls u v c ↔ Arc d′ ks u v c
+    -- 1 where the bound is over its limit or the marks are too few
+    pub next-one : lentWhole (f .bound) 0 0 (f .marks) ≡ false → k .number (k .put (f .directed) (f .bound) (f .marks) r (fed k f)) ≡ 1
+    next-one w = next-number ∙ put-one-exactly (f .bound) (k .count (fed k f)) (k .room (fed k f)) (f .marks) (k .places (fed k f)) (f .directed) (k .seen r .a) (k .seen r .b) .1 (fed-limits ∙ w)
 
--- from the costs alone
-alike : {C : Type 0} (d d′ : Bool) → d ≡ d′ → (ls ks : List (Link C)) → Single d ls → Single d′ ks → ((u v : ℕ) → costOf d u v ls ≡ costOf d′ u v ks) → Alike d d′ ls ks
-alike d d′ e ls ks s t h =
-    subst (λ (x : Bool). Single x ks → ((u v : ℕ) → costOf d u v ls ≡ costOf x u v ks) → Alike d x ls ks) e
-    (λ t h. record { long = same-length d ls ks s t h; arcs = same-arcs d ls ks s t h }) t h
+    -- else 2 exactly for a record with an end that the map has not
+    pub next-two : lentWhole (f .bound) 0 0 (f .marks) ≡ true → (k .number (k .put (f .directed) (f .bound) (f .marks) r (fed k f)) ≡ 2) ↔ (inside (f .bound) (f .marks) (k .seen r) ≡ false)
+    next-two w =
+        let x = put-two-exactly (f .bound) (k .count (fed k f)) (k .room (fed k f)) (f .marks) (k .places (fed k f)) (f .directed) (k .seen r .a) (k .seen r .b) in
+        (λ z. ⊎-elim (λ y. not-both (fed-shown .sound .inside) y) (λ y. y) (x .0 (sym next-number ∙ z) .1), λ z. next-number ∙ x .1 (fed-limits ∙ w, inr z))
+
+-- lists of different links with the same arcs are of one length
+alike : {C : Type 0} (d d′ : Bool) → d ≡ d′ → (ls ks : List (Link C)) → Single d ls → Single d′ ks → ((u v : ℕ) (c : C) → Arc d ls u v c ↔ Arc d′ ks u v c) → length ls ≡ length ks
+alike {C} d d′ e ls ks s t h =
+    subst (λ (x : Bool). Single x ks → ((u v : ℕ) (c : C) → Arc d ls u v c ↔ Arc x ks u v c) → length ls ≡ length ks) e
+    (λ t h. same-length d ls ks s t (same-costs d ls ks s t h)) t h
+
+-- limits that agree
+same-limits : {m n : ℕ} (marks marks′ : List ℕ) → m ≡ n → leb m (length marks) ≡ leb n (length marks′) → lentWhole m 0 0 marks ≡ lentWhole n 0 0 marks′
+unfolding lentWhole
+same-limits marks marks′ e h = λ i. leb (e i) 1024 && (h i && leb 0 0)
 
 -- two feeds with the same last accepted records
 pub same-maps : {C R S : Type 0} (k : Kind C R S) → Follows k → (f g : Feed R S) → SameFeeds k f g → SameMaps k f g
-same-maps k l f g s =
-    let a =
-    alike (f .directed) (g .directed) (s .directed) (heldBy k f) (heldBy k g) (held-single k l f (s .one)) (held-single k l g (s .other))
-    (λ u v. held-costs k l f (s .one) u v ∙ (cost-lasts (f .directed) u v (acceptedBy k f) ∙ (s .last u v ∙ (sym (cost-lasts (g .directed) u v (acceptedBy k g)) ∙ sym (held-costs k l g (s .other) u v)))))
-    in
+same-maps {C} k l f g s =
     record {
       bound = s .bound;
       directed = s .directed;
       has = s .has;
-      count = sym (held-count k l f (s .one)) ∙ (a .long ∙ held-count k l g (s .other));
-      whole = fed-whole k l f (s .one) ∙ sym (fed-whole k l g (s .other));
-      arcs = a .arcs;
+      count = sym (held-count k l f (s .one))
+          ∙ (alike (f .directed) (g .directed) (s .directed) (heldBy k f) (heldBy k g) (held-single k l f (s .one)) (held-single k l g (s .other)) over ∙ held-count k l g (s .other));
+      whole = fed-limits k l f (s .one) ∙ (same-limits (f .marks) (g .marks) (s .bound) (s .marked) ∙ sym (fed-limits k l g (s .other)));
+      arcs = over;
     }
+  where
+    over : (u v : ℕ) (c : C) → Arc (f .directed) (heldBy k f) u v c ↔ Arc (g .directed) (heldBy k g) u v c
+    over u v c =
+        let a = holds-lasts k l f (s .one) .arcs u v c in
+        let b = holds-lasts k l g (s .other) .arcs u v c in
+        let h = s .last u v c in
+        (λ w. b .1 (h .0 (a .0 w)), λ w. a .1 (h .1 (b .0 w)))
 
 -- ---- the theorems for both kinds
 -- a feed into an integer map, and into an f64 map, leaves the map of its last accepted records
-pub ints-hold-lasts : (f : Feed (Link ℤ) Ints) → FromEmpty ints f → HoldsLasts ints f
+pub ints-hold-lasts : (f : Feed (Link ℤ) Ints) → f .lent .count ≡ 0 → HoldsLasts ints f
 ints-hold-lasts f e = holds-lasts ints follows-ints f e
 
-pub floats-hold-lasts : (f : Feed (Link RawCost) Floats) → FromEmpty floats f → HoldsLasts floats f
+pub floats-hold-lasts : (f : Feed (Link RawCost) Floats) → f .lent .count ≡ 0 → HoldsLasts floats f
 floats-hold-lasts f e = holds-lasts floats follows-floats f e
 
 -- two feeds with the same last accepted records leave the same map

@@ -12,14 +12,14 @@ use Prim.Native.Nat.{ℕ, suc, _≤_}
 use lib.ListN.{length}
 use native.Mathlib.Omega.{arith}
 use Rattle.table.specs.Links.{Link, linkOf, joins, Arc}
-use Rattle.table.specs.Feeds.{names, lasts, lastCost, Single}
-use Rattle.table.proofs.Tables.{putList, costOf, feedInto, Within}
+use Rattle.table.specs.Feeds.{names, lasts, Single}
+use Rattle.table.proofs.Tables.{putList, costOf, lastCost, feedInto, Within}
 use Rattle.table.proofs.Joins.{joins-same, joins-ends, joins-self, joins-turn}
 
 no-none : {A C : Type 0} {x : C} → none ≡ some x → A
 no-none e = absurd (let z : _≡_ {A = ℕ} 0 1 = cc in omega arith)
 
-not-both : {A : Type 0} {x : Bool} → x ≡ true → x ≡ false → A
+pub not-both : {A : Type 0} {x : Bool} → x ≡ true → x ≡ false → A
 not-both p q = absurd (let z : _≡_ {A = ℕ} 0 1 = cc in omega arith)
 
 or-neither : (x y : Bool) → (x || y) ≡ false → (x ≡ false) × (y ≡ false)
@@ -193,6 +193,15 @@ module _ {C : Type 0} where
     λ w. arc-of-cost d ks u v c (sym (h u v) ∙ cost-of-arc d ls u v c s w),
     λ w. arc-of-cost d ls u v c (h u v ∙ cost-of-arc d ks u v c t w),
   )
+
+  -- and the other way round: where the arcs are the same, so are the costs
+  pub same-costs : (d : Bool) (ls ks : List (Link C)) → Single d ls → Single d ks → ((u v : ℕ) (c : C) → Arc d ls u v c ↔ Arc d ks u v c) → (u v : ℕ) → costOf d u v ls ≡ costOf d u v ks
+  same-costs d ls ks s t h u v = go (costOf d u v ls) refl (costOf d u v ks) refl
+    where
+      go : (x : Option C) → costOf d u v ls ≡ x → (y : Option C) → costOf d u v ks ≡ y → x ≡ y
+      go none p none q = refl
+      go (some c) p y q = sym (cost-of-arc d ks u v c t (h u v c .0 (arc-of-cost d ls u v c p))) ∙ q
+      go none p (some c) q = sym p ∙ cost-of-arc d ls u v c s (h u v c .1 (arc-of-cost d ks u v c q))
 
   -- a list fed from nothing has the costs of the last records
   pub fed-lasts : (d : Bool) (rs : List (Link C)) (u v : ℕ) → costOf d u v (feedInto d [] rs) ≡ costOf d u v (lasts d rs)

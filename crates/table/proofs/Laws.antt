@@ -323,12 +323,6 @@ module _ {C : Type 0} (d : Bool) (m room : ℕ) (marks : List ℕ) (u v n : ℕ)
   not-zero k (outside t i e) z = omega arith
   not-zero k (full t i h r e) z = omega arith
 
-  -- a good record is refused in a good table with 8 alone
-  pub only-full : (k : ℕ) → Refusal k → tableNo m n room marks ls ≡ 0 → presentBoth m marks u v ≡ true → k ≡ 8
-  only-full k (bad-table h e) t i = absurd (h (sym e ∙ t))
-  only-full k (outside t′ i′ e) t i = absurd (let z : _≡_ {A = ℕ} 0 1 = cc in omega arith)
-  only-full k (full t′ i′ h r e) t i = e
-
   -- the search ends in one of these ways
   pub found : Found (placing d m room marks u v n ls)
   found = go (eqb (tableNo m n room marks ls) 0) refl (presentBoth m marks u v) refl (ltb (placeOf d u v (take n ls)) n) refl (ltb n room) refl

@@ -1,5 +1,6 @@
--- One put into a table. The search ends in one of three ways (`Found`): refused, the table stays; at the place of the link, whose cost is
--- replaced there; at the end, where the record is appended. In the last two the links are those of `putList`, and the table stays sound.
+-- One put into a table. The search ends in one of three ways (`Found`): refused with some number, and the table stays; at the place of the
+-- link, whose cost is replaced there; at the end, where the record is appended. In the last two the number is 0, the links are those of
+-- `putList`, and the table stays sound.
 -- Assumes nothing.
 use mathlib.Core.Path.{_≡_, refl, sym, ap, _∙_, subst}
 use mathlib.Core.Bool.{Bool, true, false, cond}
@@ -9,11 +10,12 @@ use native.Mathlib.Nat.{not-suc-le-zero}
 use native.Mathlib.Numerals.{add-one}
 use native.Mathlib.Omega.{arith}
 use borrow.Author.Tests.{ne-eqb}
+use lib.Dec.{eqb}
 use lib.ListN.{length, take, set, length-set}
 use lib.Seq.{length-take-le, take-suc-set}
-use Rattle.table.specs.Links.{Link, linkOf, joins, placeOf, inside, allInside, tableNo, Place, placeNow, placing}
+use Rattle.table.specs.Links.{Link, linkOf, joins, placeOf, inside, allInside, Place, placeNow, placing}
 use Rattle.table.proofs.Tables.{putList, recost, Table, store, putTable, held}
-use Rattle.table.proofs.Laws.{Whole, whole, whole-back, whole-of-no, all-of-no, no-whole, and-left, and-right, Found, refused, replaced, appended, found, not-zero, only-full}
+use Rattle.table.proofs.Laws.{and-left, and-right, Found, refused, replaced, appended, found, not-zero}
 
 module _ {C : Type 0} where
   -- the cost replaced, in the first n places and in all
@@ -56,17 +58,15 @@ module _ {C : Type 0} where
       go q false = rw (and-left (inside m marks l) _ e) q
 
 module _ {C : Type 0} (m room : ℕ) (marks : List ℕ) where
-  -- a table that is refused with neither 1 nor 2, and that has its room
+  -- a table with its count within its room and every link inside: what refusals 1 and 2 leave out is the bound and the marks, which no put changes
   pub record Sound (t : Table C) : Type 0 where
-    pub good : tableNo m (t .count) room marks (t .places) ≡ 0
+    pub few : t .count ≤ room
+    pub inside : allInside m marks (held t) ≡ true
     pub roomy : room ≤ length (t .places)
 
-  -- its limits, and the number of its links
-  pub sound-whole : (t : Table C) → Sound t → Whole m (t .count) room marks
-  sound-whole t s = whole m (t .count) room marks (whole-of-no m (t .count) room marks (t .places) (s .good))
-
+  -- the number of its links
   pub held-long : (t : Table C) → Sound t → length (held t) ≡ t .count
-  held-long t s = length-take-le (t .count) (t .places) (omega (arith, sound-whole t s .few, s .roomy))
+  held-long t s = length-take-le (t .count) (t .places) (omega (arith, s .few, s .roomy))
 
 -- the three ends of a store
 module _ {C : Type 0} (r : Link C) (n : ℕ) (ls : List (Link C)) where
@@ -83,47 +83,34 @@ module _ {C : Type 0} (r : Link C) (n : ℕ) (ls : List (Link C)) where
   store-new = refl
 
 module _ {C : Type 0} (d : Bool) (m room : ℕ) (marks : List ℕ) (r : Link C) (t : Table C) (s : Sound m room marks t) where
-  -- what a put that was not refused as full leaves
+  -- what a put leaves: the record put on the list of links if the number is 0, else the links that were there
   pub record Step (t′ : Table C) : Type 0 where
     pub sound : Sound m room marks t′
-    pub holds : held t′ ≡ cond (inside m marks r) (putList d r (held t)) (held t)
+    pub holds : held t′ ≡ cond (eqb (t′ .no) 0) (putList d r (held t)) (held t)
 
   -- a put that was done
-  done : (t′ : Table C) → inside m marks r ≡ true → t′ .count ≤ room → room ≤ length (t′ .places) → held t′ ≡ putList d r (held t) → Step t′
-  done t′ i f l e =
-      let w = sound-whole m room marks t s in
-      record {
-        sound = record {
-          good = no-whole m (t′ .count) room marks (t′ .places) (whole-back (record { indices = w .indices; marked = w .marked; few = f }))
-              ∙ ap (λ (x : Bool). cond x 0 2) (ap (allInside m marks) e ∙ all-put d m marks r (held t) i (all-of-no m (t .count) room marks (t .places) (s .good)));
-          roomy = l;
-        };
-        holds = rw i e;
-      }
+  done : (n : ℕ) (ls : List (Link C)) → inside m marks r ≡ true → n ≤ room → room ≤ length ls → take n ls ≡ putList d r (held t) → Step (record { no = 0; count = n; places = ls })
+  done n ls i f l e = record { sound = record { few = f; inside = ap (allInside m marks) e ∙ all-put d m marks r (held t) i (s .inside); roomy = l }; holds = e }
 
-  -- a put that did not give 8
-  pub put-step : (putTable d m room marks r t .no ≡ 8 → ⊥) → Step (putTable d m room marks r t)
-  put-step nf = by (found d m room marks (r .a) (r .b) (t .count) (t .places))
+  pub put-step : Step (putTable d m room marks r t)
+  put-step = by (found d m room marks (r .a) (r .b) (t .count) (t .places))
     where
       by : Found d m room marks (r .a) (r .b) (t .count) (t .places) (placing d m room marks (r .a) (r .b) (t .count) (t .places)) → Step (putTable d m room marks r t)
       by (refused k w q) =
-          let e = ap (λ (p : Place). store p r (t .places)) q ∙ store-refused r (t .count) (t .places) k (not-zero d m room marks (r .a) (r .b) (t .count) (t .places) k w) in
-          subst Step (sym e) (stay k (λ z. nf (ap (λ (x : Table C). x .no) e ∙ z)) (only-full d m room marks (r .a) (r .b) (t .count) (t .places) k w) (inside m marks r) refl)
-        where
-          stay : (k : ℕ) → (k ≡ 8 → ⊥) → (tableNo m (t .count) room marks (t .places) ≡ 0 → inside m marks r ≡ true → k ≡ 8) → (x : Bool) → inside m marks r ≡ x → Step (record { no = k; count = t .count; places = t .places })
-          stay k f w true i = absurd (f (w (s .good) i))
-          stay k f w false i = record { sound = record { good = s .good; roomy = s .roomy }; holds = rw i }
+          let z = not-zero d m room marks (r .a) (r .b) (t .count) (t .places) k w in
+          let e = ap (λ (p : Place). store p r (t .places)) q ∙ store-refused r (t .count) (t .places) k z in
+          subst Step (sym e) (record { sound = record { few = s .few; inside = s .inside; roomy = s .roomy }; holds = rw (ne-eqb k 0 z) })
       by (replaced g i h q) =
           let e = ap (λ (p : Place). store p r (t .places)) q ∙ store-old r (t .count) (t .places) (placeOf d (r .a) (r .b) (held t)) in
           subst Step (sym e)
-          (done (record { no = 0; count = t .count; places = recost (placeOf d (r .a) (r .b) (held t)) (r .cost) (t .places) }) i
-          (sound-whole m room marks t s .few)
+          (done (t .count) (recost (placeOf d (r .a) (r .b) (held t)) (r .cost) (t .places)) i
+          (s .few)
           (omega (arith, s .roomy, length-recost (placeOf d (r .a) (r .b) (held t)) (r .cost) (t .places)))
           (take-recost (t .count) (placeOf d (r .a) (r .b) (held t)) (r .cost) (t .places) ∙ put-recost d r (held t) (omega (arith, held-long m room marks t s))))
       by (appended g i h k q) =
           let e = ap (λ (p : Place). store p r (t .places)) q ∙ store-new r (t .count) (t .places) in
           subst Step (sym e)
-          (done (record { no = 0; count = t .count + 1; places = set (t .places) (t .count) r }) i
+          (done (t .count + 1) (set (t .places) (t .count) r) i
           (omega arith)
           (omega (arith, s .roomy, length-set (t .places) (t .count) r))
           (rw (add-one (t .count)) (take-suc-set (t .places) (t .count) r (omega (arith, s .roomy))) ∙ sym (put-end d r (held t) (omega (arith, held-long m room marks t s)))))

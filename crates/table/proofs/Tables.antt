@@ -7,7 +7,7 @@ use Prim.Native.Nat.{ℕ}
 use lib.Dec.{eqb}
 use lib.ListN.{take, set}
 use Rattle.table.specs.Links.{Link, linkOf, joins, Place, placing, Arc}
-use Rattle.table.specs.Feeds.{feed, NeverFull}
+use Rattle.table.specs.Feeds.{feed, accepted, names}
 
 -- Put on a list: the first link that joins the record's ends takes its cost and keeps its place and ends; a new link goes at the end
 abbrev pub putList : {C : Type 0} → Bool → Link C → List (Link C) → List (Link C)
@@ -22,6 +22,11 @@ feedInto d ls rs = feed (putList d) ls rs
 abbrev pub costOf : {C : Type 0} → Bool → ℕ → ℕ → List (Link C) → Option C
 costOf d u v [] = none
 costOf d u v (l ∷ ls) = cond (joins d u v l) (some (l .cost)) (costOf d u v ls)
+
+-- the cost in the last record of the link u, v, if there is one
+abbrev pub lastCost : {C : Type 0} → Bool → ℕ → ℕ → List (Link C) → Option C
+lastCost d u v [] = none
+lastCost d u v (r ∷ rs) = cond (names d u v rs) (lastCost d u v rs) (cond (joins d u v r) (some (r .cost)) none)
 
 -- each link of ls stands in ks, at any place, and turned if undirected
 abbrev pub Within : {C : Type 0} → Bool → List (Link C) → List (Link C) → Type 0
@@ -61,6 +66,6 @@ putTable d m room marks r t = store (placing d m room marks (r .a) (r .b) (t .co
 abbrev pub after : {C : Type 0} → Bool → ℕ → ℕ → List ℕ → Table C → List (Link C) → Table C
 after d m room marks t rs = feed (putTable d m room marks) t rs
 
--- none of it refused as full
-abbrev pub NotFull : {C : Type 0} → Bool → ℕ → ℕ → List ℕ → Table C → List (Link C) → Type 0
-NotFull d m room marks t rs = NeverFull (putTable d m room marks) (λ t. t .no) t rs
+-- its accepted records
+abbrev pub acceptedInto : {C : Type 0} → Bool → ℕ → ℕ → List ℕ → Table C → List (Link C) → List (Link C)
+acceptedInto d m room marks t rs = accepted (putTable d m room marks) (λ t. t .no) t rs

@@ -2,14 +2,14 @@
 -- of each link. The theorems are in proofs/Demand3.antt.
 -- Assumes nothing.
 use mathlib.Core.Path.{_≡_}
-use mathlib.Core.Bool.{Bool, false, cond, _||_}
-use mathlib.Core.List.{List, [], _∷_, map}
-use mathlib.Core.Option.{Option, none, some}
+use mathlib.Core.Bool.{Bool, true, false, cond, _||_}
+use mathlib.Core.List.{List, [], _∷_, _++_, map}
 use mathlib.Core.Logic.{_↔_}
 use Prim.Native.Nat.{ℕ}
+use lib.Dec.{leb, eqb}
 use lib.IntN.{ℤ}
 use lib.ListN.{length, take}
-use Rattle.table.specs.Links.{Link, joins, zip3, present, inside, lentWhole, tableNo, Arc}
+use Rattle.table.specs.Links.{Link, joins, zip3, present, allInside, lentWhole, Arc}
 use Rattle.table.specs.Lent.{roomInts, roomFloats, FloatCost, floatCosts, RawCost, floatSeen, Ints, intsPut, Floats, floatsPut}
 
 -- a feed: each record is put into what the one before it left
@@ -17,15 +17,10 @@ abbrev pub feed : {S R : Type 0} → (R → S → S) → S → List R → S
 feed put s [] = s
 feed put s (r ∷ rs) = feed put (put r s) rs
 
--- no put of the feed gives 8
-abbrev pub NeverFull : {S R : Type 0} → (R → S → S) → (S → ℕ) → S → List R → Type 0
-NeverFull put number s [] = Unit
-NeverFull put number s (r ∷ rs) = (number (put r s) ≡ 8 → ⊥) × NeverFull put number (put r s) rs
-
--- the records that are accepted: those whose ends the map has
-abbrev pub accepted : {C : Type 0} → ℕ → List ℕ → List (Link C) → List (Link C)
-accepted m marks [] = []
-accepted m marks (r ∷ rs) = cond (inside m marks r) (r ∷ accepted m marks rs) (accepted m marks rs)
+-- the records that are accepted: those whose put gives 0
+abbrev pub accepted : {S R : Type 0} → (R → S → S) → (S → ℕ) → S → List R → List R
+accepted put number s [] = []
+accepted put number s (r ∷ rs) = cond (eqb (number (put r s)) 0) (r ∷ []) [] ++ accepted put number (put r s) rs
 
 -- does one of the records name the link u, v?
 abbrev pub names : {C : Type 0} → Bool → ℕ → ℕ → List (Link C) → Bool
@@ -36,11 +31,6 @@ names d u v (r ∷ rs) = joins d u v r || names d u v rs
 abbrev pub lasts : {C : Type 0} → Bool → List (Link C) → List (Link C)
 lasts d [] = []
 lasts d (r ∷ rs) = cond (names d (r .a) (r .b) rs) (lasts d rs) (r ∷ lasts d rs)
-
--- the cost in the last record of the link u, v, if there is one
-abbrev pub lastCost : {C : Type 0} → Bool → ℕ → ℕ → List (Link C) → Option C
-lastCost d u v [] = none
-lastCost d u v (r ∷ rs) = cond (names d u v rs) (lastCost d u v rs) (cond (joins d u v r) (some (r .cost)) none)
 
 -- no link stands twice
 abbrev pub Single : {C : Type 0} → Bool → List (Link C) → Type 0
@@ -97,43 +87,37 @@ module _ {C R S : Type 0} (k : Kind C R S) where
   abbrev pub heldBy : Feed R S → List (Link C)
   heldBy f = take (k .count (fed f)) (k .places (fed f))
 
-  -- its accepted records
+  -- its accepted records, as engines see them
   abbrev pub acceptedBy : Feed R S → List (Link C)
-  acceptedBy f = accepted (f .bound) (f .marks) (map (k .seen) (f .records))
+  acceptedBy f = map (k .seen) (accepted (k .put (f .directed) (f .bound) (f .marks)) (k .number) (f .lent) (f .records))
 
   -- the last one of each link
   abbrev pub lastsOf : Feed R S → List (Link C)
   lastsOf f = lasts (f .directed) (acceptedBy f)
 
-  -- refusal 1 or 2 for the map with the table s, else 0
-  abbrev pub numberOf : Feed R S → S → ℕ
-  numberOf f s = tableNo (f .bound) (k .count s) (k .room s) (f .marks) (k .places s)
-
   -- are the limits kept and the slices long enough after the feed?
   abbrev pub wholeAfter : Feed R S → Bool
   wholeAfter f = lentWhole (f .bound) (k .count (fed f)) (k .room (fed f)) (f .marks)
 
-  -- a feed as demand 3 means it: from a good table with count 0, and no put gives 8
-  pub record FromEmpty (f : Feed R S) : Type 0 where
-    pub empty : k .count (f .lent) ≡ 0
-    pub good : numberOf f (f .lent) ≡ 0
-    pub room : NeverFull (k .put (f .directed) (f .bound) (f .marks)) (k .number) (f .lent) (f .records)
-
-  -- what it leaves is the map of its last accepted records: a good table, no link twice, one link for each of them, and their arcs
+  -- what it leaves is the map of its last accepted records: the limits kept if the bound and the marks keep theirs, all links inside,
+  -- none twice, one link for each of them, and their arcs
   pub record HoldsLasts (f : Feed R S) : Type 0 where
-    pub good : numberOf f (fed f) ≡ 0
+    pub limits : wholeAfter f ≡ lentWhole (f .bound) 0 0 (f .marks)
+    pub inside : allInside (f .bound) (f .marks) (heldBy f) ≡ true
     pub once : Single (f .directed) (heldBy f)
     pub counted : k .count (fed f) ≡ length (lastsOf f)
     pub arcs : (u v : ℕ) (c : C) → Arc (f .directed) (heldBy f) u v c ↔ Arc (f .directed) (lastsOf f) u v c
 
-  -- two feeds for the same map: same bound, direction and presence, and the same last accepted record of each link
+  -- two feeds for the same map, both from count 0: same bound, direction and presence, m marks lent to both or to neither, and the same
+  -- last accepted record of each link. Any put may be refused, with any number
   pub record SameFeeds (f g : Feed R S) : Type 0 where
-    pub one : FromEmpty f
-    pub other : FromEmpty g
+    pub one : k .count (f .lent) ≡ 0
+    pub other : k .count (g .lent) ≡ 0
     pub bound : f .bound ≡ g .bound
     pub directed : f .directed ≡ g .directed
+    pub marked : leb (f .bound) (length (f .marks)) ≡ leb (g .bound) (length (g .marks))
     pub has : (i : ℕ) → present (f .bound) (f .marks) i ≡ present (g .bound) (g .marks) i
-    pub last : (u v : ℕ) → lastCost (f .directed) u v (acceptedBy f) ≡ lastCost (g .directed) u v (acceptedBy g)
+    pub last : (u v : ℕ) (c : C) → Arc (f .directed) (lastsOf f) u v c ↔ Arc (g .directed) (lastsOf g) u v c
 
   -- they leave maps that no engine can tell apart: all that a question may depend on is the same
   pub record SameMaps (f g : Feed R S) : Type 0 where
