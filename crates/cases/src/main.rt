@@ -24,12 +24,12 @@ const NAN: u64 = 0x7ff8_0000_0000_0000;
 const MINUS_NAN: u64 = 0xfff8_0000_0000_0001;
 
 // A distance by its bits, or none, after a space.
-fn put_distance(d: f64) {
+fn put_distance(d: u64) {
     io::write_all(STDOUT_FILENO, b" ");
-    if d >= 0.0 {
-        io::print_hex(STDOUT_FILENO, f64::to_bits(d), 16);
-    } else {
+    if d == clean::NONE_F64 {
         io::write_all(STDOUT_FILENO, b"none");
+    } else {
+        io::print_hex(STDOUT_FILENO, d, 16);
     }
 }
 
@@ -44,7 +44,7 @@ fn put_predecessor(u: u32) {
 }
 
 // The line of a case.
-fn put_line(name: &[u8], number: usize, dist: &[f64; 3], preds: &[u32; 3]) {
+fn put_line(name: &[u8], number: usize, dist: &[u64; 3], preds: &[u32; 3]) {
     io::write_all(STDOUT_FILENO, name);
     io::write_all(STDOUT_FILENO, b" ");
     io::print_decimal(STDOUT_FILENO, number as u64);
@@ -67,14 +67,14 @@ fn search(name: &[u8], bits: &[u64; 3], opens: &[u8; 3], cutoff: Cutoff) {
     let marks = [1u8; 3];
     let from = [0u16, 1, 0];
     let to = [1u16, 2, 2];
-    let mut dist = [0.0f64; 3];
+    let mut dist = [0u64; 3];
     let mut preds = [0u32; 3];
     let mut offsets = [0usize; 4];
     let mut heads = [0u16; 3];
     let mut weights = [0u64; 3];
     let mut heap = [0usize; 3];
     let mut places = [0usize; 3];
-    let mut keys = [0.0f64; 3];
+    let mut keys = [0u64; 3];
     let number = dijkstra_path::dijkstra_path_f64(
         map,
         &marks,
