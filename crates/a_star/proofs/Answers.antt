@@ -21,6 +21,7 @@ use Rattle.clean.specs.Fill.{filled}
 use Rattle.walks.specs.Walk.{Walk, stay, step}
 use Rattle.walks.specs.Chain.{Chain, passed, hops}
 use Rattle.walks.proofs.Chain.{hops-few}
+use Rattle.walks.specs.Costs.{Costs32}
 use Rattle.bag.specs.Order.{pick}
 use Rattle.pending.specs.Setting.{Setting, End}
 use Rattle.pending.specs.OnePlace.{begin, Ends}
@@ -35,7 +36,7 @@ use Rattle.net.specs.Net.{Net, netOf, ArcOf, has, nodesOf, width, arcRoom}
 use Rattle.net.proofs.Nodes.{has-below, width-most, present-in}
 use Rattle.net.proofs.Bounds.{whole-ints}
 use Rattle.net.proofs.Same.{arc-has, arc-below}
-use Rattle.rows.specs.Rows.{Lists, arcsInts, Ready, Room, Rows, Small}
+use Rattle.rows.specs.Rows.{Lists, arcsInts, Ready, Room, Rows}
 use Rattle.rows.specs.RowArc.{RowArc}
 use Rattle.rows.proofs.Kept.{needs-kept, wiped-rows}
 use Rattle.rows.proofs.Maps.{ready-ints, net-room, arcs-are, net-sound, net-kept, row-small}
@@ -92,7 +93,7 @@ module _ {m n : ℕ} {d : Bool} {xs ys : List ℕ} {cs : List ℤ} {s t : ℕ} {
   pub search-room : Roomy m (b .memory)
   search-room = fine-long fine .memory
 
-  module _ {nb : Lists ℤ} (r : Rows (arcsInts d n xs ys cs) m (b .rows) nb) (small : Small d (links n xs ys cs)) where
+  module _ {nb : Lists ℤ} (r : Rows (arcsInts d n xs ys cs) m (b .rows) nb) (small : Costs32 (Arc d (links n xs ys cs))) where
     -- each head is an index that the map has
     row-has : (u v : ℕ) (c : ℤ) → RowArc m nb u v c → has g v ≡ true
     row-has u v c a = arc-has g (fine .inside) u v c (arcs-are g (fine .inside) r u v c .0 a) .1

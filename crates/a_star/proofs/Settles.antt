@@ -6,7 +6,7 @@ use mathlib.Core.Bool.{Bool, true, false, _&&_}
 use mathlib.Core.List.{List, reverse}
 use mathlib.Core.Logic.{_⊎_, inl, inr, ⊎-elim, _↔_}
 use mathlib.Core.Option.{Option, none, some}
-use Prim.Native.Nat.{ℕ, zero, suc, _+_, _*_, _≤_, _<_}
+use Prim.Native.Nat.{ℕ, zero, suc, _<_}
 use native.Mathlib.Omega.{arith}
 use lib.IntN.{ℤ, pos}
 use lib.ListN.{length, getD}
@@ -251,7 +251,3 @@ module _ {g g′ : Net ℤ} (same : SameNet g g′) (q : Question) (b : Buffers)
         says = says-over (o .says);
         leaves = o .leaves ∙ (λ i. left (same .bound i) (same-size same i) b (o .path));
       })
-
--- ---- the scratch: offsets m + 1, heads and weights a each, the five lists of the search m each
-pub scratch-budget : (m a : ℕ) → (m + 1) + (a + a) + (m + m + m + m + m) ≤ 8 * (m + 1) + 4 * a
-scratch-budget m a = omega arith

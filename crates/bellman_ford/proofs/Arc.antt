@@ -11,7 +11,7 @@ use lib.IntN.{ℤ, pos}
 use lib.Signed.{_<ℤ_}
 use lib.ListN.{length, getD, set, length-set}
 use lib.Seq.{getD-set-same, getD-set-other}
-use Rattle.whole.specs.Zed.{_⊕_, P, N, zed, sum}
+use Rattle.whole.specs.Zed.{_⊕_, zed, sum, Within, within-of, Cost32}
 use Rattle.clean.specs.None.{noneI64}
 use Rattle.clean.specs.Better.{betterThan}
 use Rattle.walks.specs.Walk.{NegativeFrom}
@@ -25,7 +25,7 @@ use Rattle.rows.proofs.Graph as graph
 use Rattle.rows.proofs.Kept.{kept-none, kept-set}
 use Rattle.bellman_ford.specs.Search.{Memory, memoryOf, Wide, KeptMemory, Fit, Label, slotOf, Good, Held, Open, Safe, Pushed, full, waiting, pushed, Ring, toDo}
 use Rattle.bellman_ford.proofs.Ring.{slot-below, full-waits, push-done}
-use Rattle.bellman_ford.proofs.Labels.{worse-is, within, both-small, label-new, label-other, label-back, label-is, label-kinds, label-falls, better-label, lighter}
+use Rattle.bellman_ford.proofs.Labels.{worse-is, within, label-new, label-other, label-back, label-is, label-kinds, label-falls, better-label, lighter}
 
 -- what a push does to the marks and to the ring's slices
 pub push-marks : {m h n v n′ : ℕ} {q qd q′ qd′ : List ℕ} → Ring m h n q qd → v < m → v < length qd → Pushed m h n v q qd q′ qd′ n′ → (getD qd′ v 0 ≡ 0 → ⊥) × ((x : ℕ) → (x ≡ v → ⊥) → getD qd′ x 0 ≡ getD qd x 0) × (n′ ≤ n + 1)
@@ -59,10 +59,10 @@ module _ {m p s : ℕ} {nb : Lists ℤ} (fit : Fit m p s nb) {u k i h n : ℕ} {
   room : m ≤ length (M .dist)
   room = o .held .good .roomL
 
-  label-small : P d + N d ≤ 2 ^ 41
+  label-small : Within (2 ^ 41) d
   label-small = within fit (o .came) (o .short)
 
-  cost-small : P c + N c ≤ 2 ^ 31
+  cost-small : Cost32 c
   cost-small = fit .small u v c arc-here
 
   -- what the code asks of the arc
@@ -78,8 +78,8 @@ module _ {m p s : ℕ} {nb : Lists ℤ} (fit : Fit m p s nb) {u k i h n : ℕ} {
     wide = held-wide (o .held);
   }
 
-  sum-small : P (d ⊕ c) + N (d ⊕ c) ≤ 2 ^ 42
-  sum-small = both-small (d ⊕ c) (2 ^ 42) (omega (arith, label-small, cost-small, sum d c)) (omega (arith, label-small, cost-small, sum d c))
+  sum-small : Within (2 ^ 42) (d ⊕ c)
+  sum-small = within-of (2 ^ 42) (d ⊕ c) (omega (arith, label-small, cost-small, sum d c)) (omega (arith, label-small, cost-small, sum d c))
 
   sum-some : noneI64 <ℤ d ⊕ c
   sum-some = let w = sum-small in omega (arith, zed)
@@ -182,7 +182,7 @@ module _ {m p s : ℕ} {nb : Lists ℤ} (fit : Fit m p s nb) {u k i h n : ℕ} {
       pub stored-lighter : toDo (memoryOf l′ q′ qd′ ks′) n′ ≤ toDo M n
       stored-lighter = omega (arith, marks .2, lighter (M .dist) v (d ⊕ c) (omega (arith, below, room)) sum-some sum-small b (old-kind (o .held .good .kinds v below)))
         where
-          old-kind : (getD (M .dist) v (pos 0) ≡ noneI64) ⊎ (noneI64 <ℤ getD (M .dist) v (pos 0)) → (getD (M .dist) v (pos 0) ≡ noneI64) ⊎ ((noneI64 <ℤ getD (M .dist) v (pos 0)) × (P (getD (M .dist) v (pos 0)) + N (getD (M .dist) v (pos 0)) ≤ 2 ^ 41))
+          old-kind : (getD (M .dist) v (pos 0) ≡ noneI64) ⊎ (noneI64 <ℤ getD (M .dist) v (pos 0)) → (getD (M .dist) v (pos 0) ≡ noneI64) ⊎ ((noneI64 <ℤ getD (M .dist) v (pos 0)) × Within (2 ^ 41) (getD (M .dist) v (pos 0)))
           old-kind (inl q) = inl q
           old-kind (inr q) = inr (q, within fit (o .held .good .came v (getD (M .dist) v (pos 0)) (below, refl, q)) (o .held .good .short v (getD (M .dist) v (pos 0)) (below, refl, q)))
 

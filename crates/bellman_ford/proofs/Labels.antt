@@ -5,14 +5,14 @@ use mathlib.Core.Path.{_≡_, refl, sym, _∙_, subst}
 use mathlib.Core.Bool.{Bool, true, false, cond}
 use mathlib.Core.List.{List}
 use mathlib.Core.Logic.{_⊎_, inl, inr}
-use Prim.Native.Nat.{ℕ, _+_, _-_, _≤_, _<_, _^_}
+use Prim.Native.Nat.{ℕ, _+_, _-_, _*_, _≤_, _<_, _^_}
 use native.Mathlib.Omega.{arith}
 use native.Mathlib.Decide.{ℕ-discrete}
 use lib.IntN.{ℤ, pos, negsuc}
 use lib.Signed.{ltZ, _≤ℤ_, _<ℤ_}
 use lib.ListN.{length, getD, set}
 use lib.Seq.{getD-set-same, getD-set-other}
-use Rattle.whole.specs.Zed.{P, N, zed}
+use Rattle.whole.specs.Zed.{P, N, zed, Within}
 use Rattle.whole.proofs.Cases.{clash}
 use Rattle.clean.specs.None.{noneI64}
 use Rattle.clean.specs.Better.{betterThan}
@@ -41,14 +41,10 @@ worse-is n old b = go (ltZ noneI64 old) refl
     go false e = absurd (clash (sym (better-none n old e)) b)
 
 -- ---- the bound
-pub both-small : (z : ℤ) (b : ℕ) → P z ≤ b + N z → N z ≤ b + P z → P z + N z ≤ b
-both-small (pos n) b h k = omega arith
-both-small (negsuc n) b h k = omega arith
-
-pub within : {m p s : ℕ} {nb : Lists ℤ} → Fit m p s nb → {D : ℕ → ℤ → Type 0} {v k : ℕ} {d : ℤ} → Hist (RowArc m nb) s D v d k → k < p → P d + N d ≤ 2 ^ 41
+pub within : {m p s : ℕ} {nb : Lists ℤ} → Fit m p s nb → {D : ℕ → ℤ → Type 0} {v k : ℕ} {d : ℤ} → Hist (RowArc m nb) s D v d k → k < p → Within (2 ^ 41) d
 within fit {k} {d} t h =
-    let w = trail-within (2 ^ 31) (fit .small) (t .trail) in
-    both-small d (2 ^ 41) (omega (arith, w .0, t .arcs, fit .few)) (omega (arith, w .1, t .arcs, fit .few))
+    let w : Within (length (t .h) * 2 ^ 31) d = trail-within (2 ^ 31) (fit .small) (t .trail) in
+    omega (arith, t .arcs, fit .few)
 
 -- ---- a store of a label n at v
 module _ {m v : ℕ} (l : List ℤ) {n : ℤ} (below : v < m) (room : m ≤ length l) (some : noneI64 <ℤ n) where
@@ -99,8 +95,8 @@ weight-none : (d : ℤ) → d ≡ noneI64 → weightOf d ≡ 2 ^ 45
 unfolding weightOf
 weight-none d e = rw e
 
-pub lighter : (l : List ℤ) (v : ℕ) (n : ℤ) → v < length l → noneI64 <ℤ n → P n + N n ≤ 2 ^ 42 → betterThan n (getD l v (pos 0)) ≡ true
-    → (getD l v (pos 0) ≡ noneI64) ⊎ ((noneI64 <ℤ getD l v (pos 0)) × (P (getD l v (pos 0)) + N (getD l v (pos 0)) ≤ 2 ^ 41)) → weigh weightOf (set l v n) < weigh weightOf l
+pub lighter : (l : List ℤ) (v : ℕ) (n : ℤ) → v < length l → noneI64 <ℤ n → Within (2 ^ 42) n → betterThan n (getD l v (pos 0)) ≡ true
+    → (getD l v (pos 0) ≡ noneI64) ⊎ ((noneI64 <ℤ getD l v (pos 0)) × Within (2 ^ 41) (getD l v (pos 0))) → weigh weightOf (set l v n) < weigh weightOf l
 lighter l v n h some small b (inl e) = omega (arith, weight-none (getD l v (pos 0)) e, weigh-set weightOf l v n (pos 0) h, weight-label n some)
 lighter l v n h some small b (inr q) =
     let e : n <ℤ getD l v (pos 0) = better-is n (getD l v (pos 0)) b (q .0) in

@@ -3,22 +3,21 @@
 use mathlib.Core.Path.{_≡_, refl, sym, ap, _∙_}
 use mathlib.Core.Bool.{true, false}
 use mathlib.Core.Logic.{_⊎_, inl, inr, _↔_}
-use Prim.Native.Nat.{ℕ, _+_, _*_, _≤_, _<_, _^_}
+use Prim.Native.Nat.{ℕ}
 use native.Mathlib.Omega.{arith}
 use lib.IntN.{ℤ, pos}
 use lib.Signed.{_<ℤ_}
-use Rattle.whole.specs.Zed.{_⊕_, P, N, zed, sum}
+use Rattle.whole.specs.Zed.{_⊕_, zed, sum}
 use Rattle.whole.proofs.Cases.{clash, other}
 use Rattle.clean.specs.Fill.{Settled}
 use Rattle.clean.specs.None.{noneI64}
 use Rattle.clean.proofs.Filled.{settled-one}
-use Rattle.walks.specs.Walk.{Walk, Least, NoNeg, NegativeFrom, Entry}
+use Rattle.walks.specs.Walk.{Walk, NoNeg, NegativeFrom, Entry}
 use Rattle.walks.proofs.Walk.{arc, join, not-both}
 use Rattle.walks.proofs.Over.{entry-one, noneg-over, negative-from-over}
 use Rattle.net.specs.Net.{Net, ArcOf, insideNet, has, sizeOf, SameNet}
-use Rattle.net.proofs.Bounds.{Whole}
 use Rattle.net.proofs.Same.{arc-turned, same-inside, same-size}
-use Rattle.net.proofs.Totals.{total-within, arc-over, arc-back, entries-over}
+use Rattle.net.proofs.Totals.{arc-over, arc-back, entries-over}
 use Rattle.net.proofs.Tests.{Test, fails, holds, test-one, both-one}
 use Rattle.rows.specs.Kept.{Kept}
 use Rattle.rows.proofs.Kept.{kept-none, kept-filled}
@@ -105,10 +104,6 @@ module _ {g g′ : Net ℤ} (same : SameNet g g′) where
   pub same-answers : {s : ℕ} {b e e′ : Buffers} {no no′ : ℕ} → Promise g s b e no → Promise g′ s b e′ no′ → (no ≡ no′) × (e ≡ e′)
   same-answers p q = promise-one (promise-arcs p) q
 
--- ---- none is never a total
-pub total-not-none : (g : Net ℤ) (s v : ℕ) (d : ℤ) → insideNet g ≡ true → has g s ≡ true → Whole g → ((x y : ℕ) (c : ℤ) → ArcOf g x y c → P c + N c ≤ 2 ^ 31) → NoNeg (ArcOf g) s → Least (ArcOf g) s v d → noneI64 <ℤ d
-total-not-none g s v d inside source whole small none l = let w : N d < 1024 * 2 ^ 31 + P d = total-within g s v d inside source whole small none l .1 in omega (arith, zed)
-
 -- ---- undirected: a link below zero in reach is a closed walk below zero, there and back
 pub undirected-negative : (g : Net ℤ) (s u v : ℕ) (t c : ℤ) → g .directed ≡ false → Walk (ArcOf g) s u t → ArcOf g u v c → c <ℤ pos 0 → NegativeFrom (ArcOf g) s
 undirected-negative g s u v t c e w a h = record { x = u; a = t; t = c ⊕ c; reach = w; loop = join (arc a) (arc (arc-turned g e u v c a)) refl; below = omega (arith, zed, sum c c) }
@@ -116,7 +111,3 @@ undirected-negative g s u v t c e w a h = record { x = u; a = t; t = c ⊕ c; re
 -- so the answer is 7
 pub undirected-seven : {g : Net ℤ} {s u no : ℕ} {t : ℤ} {b e : Buffers} (v : ℕ) (c : ℤ) → Promise g s b e no → enough g b ≡ true → insideNet g ≡ true → has g s ≡ true → g .directed ≡ false → Walk (ArcOf g) s u t → ArcOf g u v c → c <ℤ pos 0 → no ≡ 7
 undirected-seven {g} {s} {u} {no} {t} v c p e i h f w a l = seven-exactly p .1 (e, i, h, undirected-negative g s u v t c f w a l)
-
--- ---- the scratch is within what is allowed
-pub scratch-budget : (m a : ℕ) → (m + 1) + a + a + m + m + m ≤ 8 * (m + 1) + 4 * a
-scratch-budget m a = omega arith

@@ -11,8 +11,10 @@ use Rattle.table.proofs.Laws as table
 use Rattle.net.specs.Net.{Net, ArcOf, linksOf, nodesOf, width}
 use Rattle.net.proofs.Nodes.{has-below, width-most, present-in}
 use Rattle.net.proofs.Same.{arc-has}
-use Rattle.walks.proofs.Over.{entry-over, noneg-over, negative-from-over}
-use Rattle.rows.specs.Rows.{Lists, Room, Rows, Small}
+use Rattle.net.proofs.Totals.{total-within}
+use Rattle.walks.specs.Costs.{Costs32}
+use Rattle.walks.proofs.Over.{entry-of, total-over, noneg-over, negative-from-over}
+use Rattle.rows.specs.Rows.{Lists, Room, Rows}
 use Rattle.rows.specs.RowArc.{RowArc}
 use Rattle.rows.proofs.Maps.{arcs-are, net-sound, net-kept, net-room}
 use Rattle.bellman_ford.specs.Promise.{Buffers}
@@ -36,7 +38,7 @@ module _ {g : Net ℤ} {s : ℕ} {b : Buffers} (ripe : Ripe g s b) where
     back : (u v : ℕ) (c : ℤ) → ArcOf g u v c → RowArc (g .bound) nb u v c
     back u v c = arcs-are g (ripe .inside) r u v c .1
 
-    pub fit-of : {p : ℕ} → p ≡ width g → Small (g .directed) (linksOf g) → Fit (g .bound) p s nb
+    pub fit-of : {p : ℕ} → p ≡ width g → Costs32 (ArcOf g) → Fit (g .bound) p s nb
     fit-of e small = record {
       sound = net-sound g (ripe .inside) r (limits .indices) list-room;
       indices = nodesOf g;
@@ -48,10 +50,13 @@ module _ {g : Net ℤ} {s : ℕ} {b : Buffers} (ripe : Ripe g s b) where
       small = λ u v c a. small u v c (over u v c a);
     }
 
-    pub solved-of : {M′ : Memory} {t : Bool} → Searched (g .bound) s nb (memory b) M′ t → Solved g s b (record { dist = M′ .dist; scratch = record { rows = nb; queue = M′ .queue; queued = M′ .queued; lengths = M′ .lengths } }) t
-    solved-of w = record {
+    -- the totals are the map's, and each lies in its range
+    pub solved-of : {M′ : Memory} {t : Bool} → Costs32 (ArcOf g) → Searched (g .bound) s nb (memory b) M′ t → Solved g s b (record { dist = M′ .dist; scratch = record { rows = nb; queue = M′ .queue; queued = M′ .queued; lengths = M′ .lengths } }) t
+    solved-of small w = record {
       yes = λ e. negative-from-over over (w .yes e);
-      no = λ e. (noneg-over over back (w .no e .0), λ v h. entry-over over back (w .no e .1 v h));
+      no = λ e.
+          let n = noneg-over over back (w .no e .0) in
+          (n, λ v h. entry-of (total-within g s v _ (ripe .inside) (ripe .source) (omega (arith, width-most g, limits .indices)) small n) (total-over over back (w .no e .1 v h)));
       rows = net-kept g (ripe .inside) r;
       rest = w .rest;
     }

@@ -14,7 +14,7 @@ use lib.Seq.{getD-set-other}
 use Rattle.whole.specs.Zed.{_⊕_, zed}
 use Rattle.clean.specs.None.{noneI64}
 use Rattle.walks.specs.Pigeon.{In}
-use Rattle.walks.specs.Walk.{NoNeg, Entry}
+use Rattle.walks.specs.Walk.{NoNeg, Total}
 use Rattle.walks.specs.Hist.{At, at-here, begin, Low, Hist}
 use Rattle.walks.proofs.Labels.{no-neg, labels-least, no-label}
 use Rattle.walks.proofs.Fall.{walked}
@@ -66,7 +66,7 @@ module _ {m p s : ℕ} {nb : Lists ℤ} {h n : ℕ} {M : Memory} (t : Calm m p s
   }
 
 -- ---- nothing waits
-calm-end : {m p s : ℕ} {nb : Lists ℤ} {h n : ℕ} {M : Memory} → Calm m p s nb h n M → n ≤ 0 → NoNeg (RowArc m nb) s × ((v : ℕ) → v < m → Entry (RowArc m nb) s v (getD (M .dist) v (pos 0)))
+calm-end : {m p s : ℕ} {nb : Lists ℤ} {h n : ℕ} {M : Memory} → Calm m p s nb h n M → n ≤ 0 → NoNeg (RowArc m nb) s × ((v : ℕ) → v < m → Total (RowArc m nb) s v (getD (M .dist) v (pos 0)))
 calm-end {m} {p} {s} {nb} {h} {n} {M} t none = (no-neg one all (first .1), λ v b. pick v b (t .held .good .kinds v b))
   where
     first : Low (Label m (M .dist)) s (pos 0)
@@ -85,7 +85,7 @@ calm-end {m} {p} {s} {nb} {h} {n} {M} t none = (no-neg one all (first .1), λ v 
     all : (u v : ℕ) (d c : ℤ) → Label m (M .dist) u d → RowArc m nb u v c → (e : ℤ) × Label m (M .dist) v e × e ≤ℤ d ⊕ c
     all u v d c a r = t .relaxed u v d c (idle u (a .0)) a r
 
-    pick : (v : ℕ) → v < m → (getD (M .dist) v (pos 0) ≡ noneI64) ⊎ (noneI64 <ℤ getD (M .dist) v (pos 0)) → Entry (RowArc m nb) s v (getD (M .dist) v (pos 0))
+    pick : (v : ℕ) → v < m → (getD (M .dist) v (pos 0) ≡ noneI64) ⊎ (noneI64 <ℤ getD (M .dist) v (pos 0)) → Total (RowArc m nb) s v (getD (M .dist) v (pos 0))
     pick v b (inl e) = inr (e, no-label one all (first .1) (λ d a. let f : noneI64 ≡ d = sym e ∙ a .1 in let g : noneI64 <ℤ d = a .2 in omega (arith, zed)))
     pick v b (inr q) = inl (labels-least one all (first .1) (first .2) (b, refl, q) (walked (t .held .good .came v (getD (M .dist) v (pos 0)) (b, refl, q) .trail)))
 

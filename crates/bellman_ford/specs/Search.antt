@@ -9,11 +9,12 @@ use lib.Dec.{ltb}
 use lib.IntN.{ℤ, pos}
 use lib.Signed.{ltZ, _<ℤ_}
 use lib.ListN.{length, getD, set}
-use Rattle.whole.specs.Zed.{_⊕_, P, N}
+use Rattle.whole.specs.Zed.{_⊕_, P, N, Within}
 use Rattle.clean.specs.None.{noneI64}
 use Rattle.clean.specs.Better.{betterThan}
 use Rattle.walks.specs.Pigeon.{In}
-use Rattle.walks.specs.Walk.{NoNeg, NegativeFrom, Entry}
+use Rattle.walks.specs.Walk.{NoNeg, NegativeFrom, Total}
+use Rattle.walks.specs.Costs.{Costs32}
 use Rattle.walks.specs.Hist.{Low, Hist}
 use Rattle.walks.specs.Weigh.{weigh}
 use Rattle.rows.specs.Rows.{Lists}
@@ -54,7 +55,7 @@ pub record Fit (m p s : ℕ) (nb : Lists ℤ) : Type 0 where
   pub source : In s indices
   pub below : s < m
   pub ends : (u v : ℕ) (c : ℤ) → RowArc m nb u v c → In u indices × In v indices
-  pub small : (u v : ℕ) (c : ℤ) → RowArc m nb u v c → P c + N c ≤ 2 ^ 31
+  pub small : Costs32 (RowArc m nb)
 
 -- v has the label d
 abbrev pub Label : ℕ → List ℤ → ℕ → ℤ → Type 0
@@ -117,8 +118,8 @@ pub record Safe (m : ℕ) (d : ℤ) (k v : ℕ) (c : ℤ) (h n : ℕ) (M : Memor
   pub first : h < m
   pub few : n ≤ m
   pub length-few : k < 1024
-  pub label : P d + N d ≤ 2 ^ 60
-  pub cost : P c + N c ≤ 2 ^ 60
+  pub label : Within (2 ^ 60) d
+  pub cost : Within (2 ^ 60) c
   pub wide : Wide m M
 
 -- an index goes to the end of the ring, unless it waits there, as each does where the ring is full; past the end nothing waits
@@ -159,5 +160,5 @@ pub record Fresh (m : ℕ) (M : Memory) : Type 0 where
 -- a search that is over
 pub record Searched (m s : ℕ) (nb : Lists ℤ) (M M′ : Memory) (negative : Bool) : Type 0 where
   pub yes : negative ≡ true → NegativeFrom (RowArc m nb) s
-  pub no : negative ≡ false → NoNeg (RowArc m nb) s × ((v : ℕ) → v < m → Entry (RowArc m nb) s v (getD (M′ .dist) v (pos 0)))
+  pub no : negative ≡ false → NoNeg (RowArc m nb) s × ((v : ℕ) → v < m → Total (RowArc m nb) s v (getD (M′ .dist) v (pos 0)))
   pub rest : KeptMemory m M M′

@@ -8,17 +8,22 @@ use lib.IntN.{ℤ, pos}
 use lib.ListN.{length}
 use Rattle.clean.specs.Fill.{filled, Settled}
 use Rattle.clean.specs.None.{noneI64}
-use Rattle.clean.proofs.Filled.{filled-same}
-use Rattle.walks.specs.Walk.{Entry}
+use Rattle.clean.proofs.Filled.{filled-same, settled-over}
+use Rattle.table.proofs.Laws as table
+use Rattle.walks.specs.Walk.{Entry, Total}
+use Rattle.walks.proofs.Over.{entry-of}
 use Rattle.net.specs.Net.{Net, ArcOf, sizeOf}
-use Rattle.net.proofs.Nodes.{has-below}
+use Rattle.net.proofs.Nodes.{has-below, width-most}
+use Rattle.net.proofs.Totals.{total-within}
 use Rattle.rows.specs.Kept.{Kept, KeptLists}
 use Rattle.rows.proofs.Kept.{kept-none, kept-filled, kept-same, needs-kept, lists-wiped, wiped-rows}
+use Rattle.pending.specs.Reach.{BadInReach}
 use Rattle.turns.specs.Firsts.{Roomy}
 use Rattle.search.specs.Runs.{Reached, done as all, bad as refuse}
 use Rattle.dijkstra.specs.Promise.{Scratch, Buffers, memory, wipedAll, clear, Promise, bad, done}
 use Rattle.dijkstra.specs.Parts.{Room, Solved}
 use Rattle.dijkstra.proofs.Refusals.{Passed}
+use Rattle.dijkstra.proofs.Up.{no-negative}
 
 -- scratch of which only the part used changed
 pub record KeptScratch (m a : ℕ) (s t : Scratch) : Type 0 where
@@ -85,6 +90,10 @@ module _ {g : Net ℤ} {s : ℕ} {b : Buffers} (ok : Passed g s b) where
     pub dist-after : g .bound ≤ length (b₁ .dist)
     dist-after = rw (v .rest .dist .long) (ok .dist)
 
+    -- a least total lies in its range
+    in-range : (BadInReach (ArcOf g) s → ⊥) → (i : ℕ) (x : ℤ) → Total (ArcOf g) s i x → Entry (ArcOf g) s i x
+    in-range n i x = entry-of (total-within g s i x (ok .inside) (ok .source) (omega (arith, width-most g, table.whole (g .bound) (g .count) (g .room) (g .marks) (ok .whole) .indices)) (v .costs) (no-negative n))
+
     -- the scratch wiped, and the distances blank unless the number is 0
     module _ {r : Scratch} (w : r ≡ wipedAll (g .bound) a (b₁ .scratch)) {d : List ℤ} (keep : no ≡ 0 → d ≡ b₁ .dist) (wipe : (no ≡ 0 → ⊥) → d ≡ filled (g .bound) noneI64 (b₁ .dist)) where
       -- the scratch is zero where it was used
@@ -96,7 +105,7 @@ module _ {g : Net ℤ} {s : ℕ} {b : Buffers} (ok : Passed g s b) where
       answer = go (v .answer)
         where
           go : Reached (ArcOf g) (g .bound) s (b .dist) (b₁ .dist) no → Promise g s b (record { dist = d; scratch = r }) no
-          go (all e n x) = done e (ok .long) (ok .inside) (ok .source) n (subst (Settled (g .bound) (Entry (ArcOf g) s) (b .dist)) (sym (keep e)) x) cleared
+          go (all e n x) = done e (ok .long) (ok .inside) (ok .source) n (subst (Settled (g .bound) (Entry (ArcOf g) s) (b .dist)) (sym (keep e)) (settled-over (λ i h y t. in-range n i y t) x)) cleared
           go (refuse e n) =
               let f : d ≡ filled (g .bound) noneI64 (b .dist) = wipe (λ z. absurd (omega (arith, e, z))) ∙ filled-same (g .bound) noneI64 (b₁ .dist) (b .dist) (v .rest .dist .rest) in
               bad e (ok .long) (ok .inside) (ok .source) n (λ i. record { dist = f i; scratch = cleared i })

@@ -1,24 +1,21 @@
 -- The promise of `dijkstra` settles the answer and each buffer, goes by the arcs alone, and gives each number exactly when its condition holds.
 -- Assumes nothing.
 use mathlib.Core.Path.{_≡_, refl, sym, ap, _∙_}
-use mathlib.Core.Bool.{Bool, true, false}
+use mathlib.Core.Bool.{true, false}
 use mathlib.Core.Logic.{_⊎_, inl, inr, _↔_}
-use Prim.Native.Nat.{ℕ, _+_, _*_, _≤_, _<_, _^_}
+use Prim.Native.Nat.{ℕ}
 use native.Mathlib.Omega.{arith}
 use lib.IntN.{ℤ, pos}
-use lib.Signed.{ltZ, _≤ℤ_, _<ℤ_}
-use Rattle.whole.specs.Zed.{_⊕_, P, N, zed, sum, lt-yes, lt-no}
+use lib.Signed.{_<ℤ_}
 use Rattle.whole.proofs.Cases.{clash, other}
 use Rattle.clean.specs.Fill.{Settled}
 use Rattle.clean.specs.None.{noneI64}
 use Rattle.clean.proofs.Filled.{settled-one}
-use Rattle.walks.specs.Walk.{Walk, stay, step, Least, NoNeg, Entry}
-use Rattle.walks.proofs.Walk.{arc, join}
+use Rattle.walks.specs.Walk.{Walk, Entry}
 use Rattle.walks.proofs.Over.{entry-one}
 use Rattle.net.specs.Net.{Net, ArcOf, insideNet, has, sizeOf, SameNet}
-use Rattle.net.proofs.Bounds.{Whole}
 use Rattle.net.proofs.Same.{arc-turned, same-inside, same-size}
-use Rattle.net.proofs.Totals.{total-within, arc-over, arc-back, entries-over}
+use Rattle.net.proofs.Totals.{arc-over, arc-back, entries-over}
 use Rattle.net.proofs.Tests.{Test, fails, holds, test-one, both-one}
 use Rattle.rows.specs.Kept.{Kept}
 use Rattle.rows.proofs.Kept.{kept-none, kept-filled}
@@ -114,38 +111,7 @@ module _ {g g′ : Net ℤ} (same : SameNet g g′) where
   pub same-answers : {s : ℕ} {b e e′ : Buffers} {no no′ : ℕ} → Promise g s b e no → Promise g′ s b e′ no′ → (no ≡ no′) × (e ≡ e′)
   same-answers p q = promise-one (promise-arcs p) q
 
--- ---- with no arc below zero in reach, no total is below zero
-module _ {Arc : ℕ → ℕ → ℤ → Type 0} {s : ℕ} (clean : BadInReach Arc s → ⊥) where
-  -- the walk's arcs leave indices in reach
-  pub total-up : {u v : ℕ} {a t : ℤ} → Walk Arc s u a → Walk Arc u v t → pos 0 ≤ℤ t
-  total-up r (stay e) = omega (arith, zed, e)
-  total-up {u} {a = a} {t = q} r (step {v = v} {c} {t} x w e) = go (ltZ c (pos 0)) refl (total-up (join {r = a ⊕ c} r (arc x) refl) w)
-    where
-      go : (b : Bool) → ltZ c (pos 0) ≡ b → pos 0 ≤ℤ t → pos 0 ≤ℤ q
-      go true f k = absurd (clean (record { u = u; t = a; v = v; c = c; reach = r; arc-is = x; below = omega (arith, zed, lt-yes c (pos 0) f) }))
-      go false f k = omega (arith, zed, lt-no c (pos 0) f, sum c t)
-
-  pub no-negative : NoNeg Arc s
-  no-negative x a t r w = total-up r w
-
--- ---- none is never a total
-module _ (g : Net ℤ) (s v : ℕ) (d : ℤ) (inside : insideNet g ≡ true) (source : has g s ≡ true) (clean : BadInReach (ArcOf g) s → ⊥) (l : Least (ArcOf g) s v d) where
-  -- a total is not below zero
-  pub total-not-none : noneI64 <ℤ d
-  total-not-none = let k = total-up clean (stay refl) (l .walk) in omega (arith, zed)
-
-  -- and small
-  pub total-small : Whole g → ((x y : ℕ) (c : ℤ) → ArcOf g x y c → P c + N c ≤ 2 ^ 31) → d <ℤ pos (1024 * 2 ^ 31)
-  total-small whole small =
-      let k : pos 0 ≤ℤ d = total-up clean (stay refl) (l .walk) in
-      let w : P d < 1024 * 2 ^ 31 + N d = total-within g s v d inside source whole small (no-negative clean) l .0 in
-      omega (arith, zed)
-
 -- ---- undirected: a link below zero with either end in reach refuses
 pub undirected-bad : (g : Net ℤ) (s u v : ℕ) (t c : ℤ) → g .directed ≡ false → ArcOf g u v c → c <ℤ pos 0 → Walk (ArcOf g) s u t ⊎ Walk (ArcOf g) s v t → BadInReach (ArcOf g) s
 undirected-bad g s u v t c e a h (inl w) = record { u = u; t = t; v = v; c = c; reach = w; arc-is = a; below = h }
 undirected-bad g s u v t c e a h (inr w) = record { u = v; t = t; v = u; c = c; reach = w; arc-is = arc-turned g e u v c a; below = h }
-
--- ---- the scratch is within what is allowed
-pub scratch-budget : (m a : ℕ) → (m + 1) + a + a + m + m + m + m ≤ 8 * (m + 1) + 4 * a
-scratch-budget m a = omega arith

@@ -2,14 +2,15 @@
 -- Assumes nothing.
 use mathlib.Core.Bool.{Bool}
 use mathlib.Core.List.{List}
-use Prim.Native.Nat.{ℕ, _+_, _≤_, _^_}
+use Prim.Native.Nat.{ℕ, _≤_}
 use native.Mathlib.Omega.{arith}
 use lib.IntN.{ℤ}
 use lib.ListN.{length}
-use Rattle.whole.specs.Zed.{P, N}
+use Rattle.whole.specs.Zed.{Cost32}
 use Rattle.table.specs.Links.{links, Arc}
+use Rattle.walks.specs.Costs.{Costs32}
 use Rattle.net.specs.Net.{Net, netOf, arcRoom}
-use Rattle.rows.specs.Rows.{Lists, Ready, Room, Rows, Small, arcsInts}
+use Rattle.rows.specs.Rows.{Lists, Ready, Room, Rows, arcsInts}
 use Rattle.rows.specs.RowArc.{RowArc}
 use Rattle.rows.proofs.Maps.{ready-ints, arcs-are, net-sound, net-kept, net-room, row-small}
 use Rattle.turns.specs.Memory.{Memory}
@@ -33,14 +34,14 @@ module _ {m n : ℕ} {d : Bool} {xs ys : List ℕ} {cs : List ℤ} {s : ℕ} {b 
   list-room = net-room g (ripe .rows)
 
   module _ {nb : Lists ℤ} (r : Rows (arcsInts d n xs ys cs) m (b .scratch .rows) nb) where
-    -- a cost of 32 bits is cheap
-    pub cheap : Small d (links n xs ys cs) → Cheap m nb
+    -- a cost that an i32 holds is cheap
+    pub cheap : Costs32 (Arc d (links n xs ys cs)) → Cheap m nb
     cheap f = record {
       rows = net-sound g (ripe .inside) r (ready .0 .indices) list-room;
-      cheap = λ u v c a. let k : P c + N c ≤ 2 ^ 31 = row-small d (links n xs ys cs) r f u v c a in omega arith;
+      cheap = λ u v c a. let k : Cost32 c = row-small d (links n xs ys cs) r f u v c a in omega arith;
     }
 
     -- the search over the list answers over the map's arcs
-    pub solved : {M : Memory ℤ} {no : ℕ} → Reached (RowArc m nb) m s (b .dist) (M .dist) no → KeptMemory m (memory b) M
+    pub solved : {M : Memory ℤ} {no : ℕ} → Costs32 (Arc d (links n xs ys cs)) → Reached (RowArc m nb) m s (b .dist) (M .dist) no → KeptMemory m (memory b) M
         → Solved (Arc d (links n xs ys cs)) m (arcRoom d n) s b (record { dist = M .dist; scratch = record { rows = nb; preds = M .preds; heap = M .heap; places = M .places; keys = M .keys } }) no
-    solved w k = record { answer = reached-over (λ u v c. arcs-are g (ripe .inside) r u v c .0) (λ u v c. arcs-are g (ripe .inside) r u v c .1) w; rows = net-kept g (ripe .inside) r; rest = k }
+    solved f w k = record { answer = reached-over (λ u v c. arcs-are g (ripe .inside) r u v c .0) (λ u v c. arcs-are g (ripe .inside) r u v c .1) w; costs = f; rows = net-kept g (ripe .inside) r; rest = k }

@@ -6,6 +6,7 @@ use mathlib.Core.List.{List}
 use Prim.Native.Nat.{ℕ, _≤_, _<_}
 use lib.IntN.{ℤ}
 use lib.ListN.{length}
+use Rattle.walks.specs.Costs.{Costs32}
 use Rattle.net.specs.Net.{Net, netOf, wholeNet, insideNet, has, arcRoom}
 use Rattle.rows.specs.Kept.{KeptLists, Needs}
 use Rattle.turns.specs.Firsts.{Roomy, KeptMemory}
@@ -33,8 +34,9 @@ pub record Ripe (m n : ℕ) (d : Bool) (xs ys : List ℕ) (cs : List ℤ) (s : �
   pub rows : Needs m (arcRoom d n) (b .scratch .rows)
   pub room : Roomy m (memory b)
 
--- solved over the arcs: the answer, and the rest of each buffer as before
+-- solved over the arcs: the answer, the range that the costs were read in, and the rest of each buffer as before
 pub record Solved (Arc : ℕ → ℕ → ℤ → Type 0) (m a s : ℕ) (b e : Buffers) (no : ℕ) : Type 0 where
   pub answer : Reached Arc m s (b .dist) (e .dist) no
+  pub costs : Costs32 Arc
   pub rows : KeptLists m a (b .scratch .rows) (e .scratch .rows)
   pub rest : KeptMemory m (memory b) (memory e)

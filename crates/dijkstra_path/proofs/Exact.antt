@@ -23,8 +23,8 @@ use Rattle.float.proofs.Whole.{whole-good}
 use Rattle.table.specs.Links.{arcs}
 use Rattle.table.specs.Lent.{FloatCost}
 use Rattle.walks.specs.Pigeon.{In}
-use Rattle.walks.specs.Walk.{Entry}
-use Rattle.walks.proofs.Over.{entry-one}
+use Rattle.walks.specs.Walk.{Total}
+use Rattle.walks.proofs.Over.{total-one}
 use Rattle.net.specs.Net.{Net, OpenArcOf, linksOf, insideNet, has, nodesOf}
 use Rattle.net.specs.Net as net
 use Rattle.net.proofs.Same.{open-has}
@@ -130,8 +130,8 @@ module _ {g : Net FloatCost} (h : Net ℤ) {s : ℕ} (to : (u v : ℕ) (c : ℤ)
       heads u v c a = let w = to u v c a in present-in g v (open-has g (shows .inside) u v (w .0) (w .1) .1)
 
   -- what `dijkstra` may hold for an index and the f64 entry are one number, or both none
-  pub exact-entry : (v : ℕ) → v < g .bound → {z : ℤ} → Entry (net.ArcOf h) s v z → (y : Option ℤ) × (z ≡ shown noneI64 y) × SameNumber y (getD (e .dist) v noneF64)
-  exact-entry v l {z} entry = (i .dist v, entry-one entry (own (i .dist v) refl), k .1 v l .0)
+  pub exact-entry : (v : ℕ) → v < g .bound → {z : ℤ} → Total (net.ArcOf h) s v z → (y : Option ℤ) × (z ≡ shown noneI64 y) × SameNumber y (getD (e .dist) v noneF64)
+  exact-entry v l {z} total = (i .dist v, total-one total (own (i .dist v) refl), k .1 v l .0)
     where
       i : End ℤ
       i = whole-end .0
@@ -139,6 +139,6 @@ module _ {g : Net FloatCost} (h : Net ℤ) {s : ℕ} (to : (u v : ℕ) (c : ℤ)
       k : (i .number ≡ 0) × ((v : ℕ) → v < g .bound → SameNumber (i .dist v) (getD (e .dist) v noneF64) × (getD (e .preds) v noneU32 ≡ shown noneU32 (i .pred v)))
       k = exact-answers (net.ArcOf h) to from promise zero (whole-end .1)
 
-      own : (y : Option ℤ) → i .dist v ≡ y → Entry (net.ArcOf h) s v (shown noneI64 y)
+      own : (y : Option ℤ) → i .dist v ≡ y → Total (net.ArcOf h) s v (shown noneI64 y)
       own none q = inr (refl, dijkstra-answer (net.ArcOf h) s (whole-end .1) .unreached (k .0) v q)
       own (some d) q = inl (dijkstra-answer (net.ArcOf h) s (whole-end .1) .least (k .0) v d q)

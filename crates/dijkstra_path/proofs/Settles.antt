@@ -5,7 +5,7 @@ use mathlib.Core.Bool.{true, false}
 use mathlib.Core.List.{List}
 use mathlib.Core.Logic.{_⊎_, inl, inr, _↔_}
 use mathlib.Core.Option.{none}
-use Prim.Native.Nat.{ℕ, _+_, _*_, _≤_}
+use Prim.Native.Nat.{ℕ}
 use native.Mathlib.Omega.{arith}
 use lib.Ieee.{nan, inf, binary64, ofBits}
 use Rattle.whole.proofs.Cases.{clash, other}
@@ -147,7 +147,3 @@ cutoff-infinity = (promise-cut (At (inf false)) None (λ x p. past-infinity x �
 -- -0.0 acts as 0.0
 pub cutoff-minus : {g : Net FloatCost} {s : ℕ} {b e : Buffers} {no : ℕ} → Promise g s (At (ofBits binary64 0x8000_0000_0000_0000)) b e no ↔ Promise g s (At (ofBits binary64 zero64)) b e no
 cutoff-minus = (promise-cut (At (ofBits binary64 0x8000_0000_0000_0000)) (At (ofBits binary64 zero64)) (λ x p. past-minus x p), promise-cut (At (ofBits binary64 zero64)) (At (ofBits binary64 0x8000_0000_0000_0000)) (λ x p. sym (past-minus x p)))
-
--- ---- the scratch is within what 01 allows
-pub scratch-budget : (m a : ℕ) → (m + 1) + a + a + m + m + m ≤ 8 * (m + 1) + 4 * a
-scratch-budget m a = omega arith

@@ -15,16 +15,20 @@ use Rattle.clean.specs.Fill.{filled}
 use Rattle.clean.specs.None.{noneI64}
 use Rattle.clean.proofs.Filled.{filled-same}
 use Rattle.table.specs.Links.{links}
-use Rattle.walks.specs.Walk.{Least, Negative, Entry}
+use Rattle.walks.specs.Walk.{Least, Negative, Entry, Total}
+use Rattle.walks.proofs.Over.{entry-of as entry-within}
 use Rattle.net.specs.Net.{Net, netOf, ArcOf, has, nodesOf, width}
 use Rattle.net.specs.Ranks.{Ranks}
+use Rattle.net.proofs.Nodes.{node-marked}
+use Rattle.net.proofs.Totals.{total-within}
 use Rattle.matrix.specs.Matrix.{square, negative, done}
-use Rattle.matrix.proofs.Matrix.{place-in}
+use Rattle.matrix.proofs.Matrix.{place-in, closed-up}
 use Rattle.floyd_warshall.specs.Promise.{Promise}
 use Rattle.floyd_warshall.specs.Rounds.{pickZ, cell, after, anyBelow, Strided, Begun, Refused, Complete, Rounded}
 use Rattle.floyd_warshall.specs.Filling.{refusalNo, Sound, Ranked, Started, Costs, poured, shown, Shown, Solved}
 use Rattle.floyd_warshall.proofs.Turns.{none-below, some-below}
 use Rattle.floyd_warshall.proofs.Totals.{refused, never, near-entry, far-entry}
+use Rattle.floyd_warshall.proofs.Poured.{arc-fits}
 use Rattle.floyd_warshall.proofs.Filled.{few, rowed, filled-size, matrix-filled, begun}
 use Rattle.floyd_warshall.proofs.Refusals.{passed}
 
@@ -67,10 +71,16 @@ module _ (m n : ℕ) (d : Bool) (marks xs ys : List ℕ) (cs : List ℤ) (ranks 
       all-done : Complete (width g) (poured d (width g) ranks (links n xs ys cs) (q .first)) l′
       all-done = subst (λ (x : List ℤ). Complete (width g) x l′) (q .is) C
 
+      -- a least total lies in its range
+      in-range : (i j : ℕ) → i < width g → (x : ℤ) → Total (ArcOf g) (getD (nodesOf g) i 0) (getD (nodesOf g) j 0) x → Entry (ArcOf g) (getD (nodesOf g) i 0) (getD (nodesOf g) j 0) x
+      in-range i j h x =
+          entry-within (total-within g (getD (nodesOf g) i 0) (getD (nodesOf g) j 0) x (S .inside) (node-marked (has g) m i h .1) (few m n d marks xs ys cs ranks S R) (arc-fits d n xs ys cs F)
+          (λ y a t r o. closed-up (never (rowed m n d marks xs ys cs ranks S R F) (matrix-filled m n d marks xs ys cs ranks S R F (q .first) (q .started)) (all-done .up)) o))
+
       entry-shown : (i j : ℕ) → i < width g → j < width g → (b : Bool) → ltZ (cell (width g) l′ i j) (pos (2 ^ 49)) ≡ b → Entry (ArcOf g) (getD (nodesOf g) i 0) (getD (nodesOf g) j 0) (pickZ b (cell (width g) l′ i j) noneI64)
       entry-shown i j h k true e =
           let z = all-done .all i j h k in
-          inl (subst (Least (ArcOf g) (getD (nodesOf g) i 0) (getD (nodesOf g) j 0)) (sym z) (near-entry (rowed m n d marks xs ys cs ranks S R F) (matrix-filled m n d marks xs ys cs ranks S R F (q .first) (q .started)) (all-done .up) i j h k (omega (arith, zed))))
+          in-range i j h _ (inl (subst (Least (ArcOf g) (getD (nodesOf g) i 0) (getD (nodesOf g) j 0)) (sym z) (near-entry (rowed m n d marks xs ys cs ranks S R F) (matrix-filled m n d marks xs ys cs ranks S R F (q .first) (q .started)) (all-done .up) i j h k (omega (arith, zed)))))
       entry-shown i j h k false e =
           let z = all-done .all i j h k in
           inr (refl, far-entry (rowed m n d marks xs ys cs ranks S R F) (matrix-filled m n d marks xs ys cs ranks S R F (q .first) (q .started)) (all-done .up) i j h k (omega (arith, zed)))

@@ -10,10 +10,9 @@ use native.Mathlib.Omega.{arith}
 use lib.IntN.{ℤ, pos}
 use lib.ListN.{length, getD}
 use lib.Signed.{_≤ℤ_}
-use Rattle.whole.specs.Zed.{zed}
+use Rattle.whole.specs.Zed.{zed, Within}
 use Rattle.whole.proofs.Cases.{and-left, and-right}
 use Rattle.table.specs.Links.{Link, links, present, presentBoth, inside, allInside}
-use Rattle.walks.specs.Near.{Near}
 use Rattle.walks.specs.Walk.{Walk, stay}
 use Rattle.walks.proofs.Walk.{arc}
 use Rattle.net.specs.Net.{Net, netOf, ArcOf, has, nodesOf, width}
@@ -22,7 +21,7 @@ use Rattle.net.proofs.Bounds.{whole-ints, long-ints, width-small}
 use Rattle.net.proofs.Same.{arc-has}
 use Rattle.floyd_warshall.specs.Rounds.{cell, Begun}
 use Rattle.floyd_warshall.specs.Filling.{Sound, Ranked, Started, Costs, poured}
-use Rattle.floyd_warshall.proofs.Poured.{ends-present, arc-fits, Within, ArcIn, poured-size, poured-le, poured-low, poured-new}
+use Rattle.floyd_warshall.proofs.Poured.{ends-present, arc-fits, RowsBelow, ArcIn, poured-size, poured-le, poured-low, poured-new}
 use Rattle.floyd_warshall.proofs.Totals.{Filled, Rowed}
 
 -- a link that is poured: its ends have rows in the matrix
@@ -60,7 +59,7 @@ module _ (m n : ℕ) (d : Bool) (marks xs ys : List ℕ) (cs : List ℤ) (ranks 
         column = row-in _ (k .1);
       }
 
-  within-all : (ls : List (Link ℤ)) → allInside m marks ls ≡ true → Within d (width g) ranks ls
+  within-all : (ls : List (Link ℤ)) → allInside m marks ls ≡ true → RowsBelow d (width g) ranks ls
   unfolding presentBoth
   within-all [] e = tt
   within-all (x ∷ ls) e = let k = and-left (inside m marks x) _ e in (row-in _ (and-left (present m marks (x .a)) _ k), row-in _ (and-right (present m marks (x .a)) _ k), within-all ls (and-right (inside m marks x) _ e))
@@ -85,7 +84,7 @@ module _ (m n : ℕ) (d : Bool) (marks xs ys : List ℕ) (cs : List ℤ) (ranks 
       abbrev l′ : List ℤ
       l′ = poured d (width g) ranks (links n xs ys cs) l
 
-      in-all : Within d (width g) ranks (links n xs ys cs)
+      in-all : RowsBelow d (width g) ranks (links n xs ys cs)
       in-all = within-all (links n xs ys cs) (S .inside)
 
       pub filled-size : length l′ ≡ width g * width g
@@ -125,5 +124,5 @@ module _ (m n : ℕ) (d : Bool) (marks xs ys : List ℕ) (cs : List ℤ) (ranks 
       pub begun : ((i : ℕ) → i < width g → pos 0 ≤ℤ cell (width g) l′ i i) → Begun (width g) l′
       begun up = record { few = few; size = filled-size; near = near; up = up }
         where
-          near : (i j : ℕ) → i < width g → j < width g → Near (2 ^ 50) (cell (width g) l′ i j)
-          near i j h k = ⊎-elim (⊎-elim (λ e. let f = e .1 in record { high = omega (arith, zed); low = omega (arith, zed) }) (λ e. record { high = omega (arith, zed); low = omega (arith, zed) })) (λ a. let b = arc-fits d n xs ys cs F (a .u) (a .v) (cell (width g) l′ i j) (a .arc) in record { high = omega arith; low = omega arith }) (origin i j h k)
+          near : (i j : ℕ) → i < width g → j < width g → Within (2 ^ 50) (cell (width g) l′ i j)
+          near i j h k = ⊎-elim (⊎-elim (λ e. rw (e .1) (omega arith)) (λ e. rw e (omega arith))) (λ a. let b = arc-fits d n xs ys cs F (a .u) (a .v) (cell (width g) l′ i j) (a .arc) in omega arith) (origin i j h k)

@@ -5,7 +5,7 @@ use mathlib.Core.Path.{_≡_, refl, sym, ap, _∙_, subst}
 use mathlib.Core.Bool.{Bool, true, false}
 use mathlib.Core.List.{List, [], _∷_}
 use mathlib.Core.Logic.{_⊎_, inl, inr, ⊎-elim}
-use Prim.Native.Nat.{ℕ, zero, suc, _+_, _*_, _^_, _≤_, _<_}
+use Prim.Native.Nat.{ℕ, zero, suc, _+_, _*_, _≤_, _<_}
 use native.Mathlib.Decide.{ℕ-discrete}
 use native.Mathlib.Nat.{not-suc-le-zero, le-of-suc-le-suc}
 use native.Mathlib.Numerals.{add-one}
@@ -13,10 +13,11 @@ use native.Mathlib.Omega.{arith}
 use lib.IntN.{ℤ, pos}
 use lib.ListN.{length, getD, set, drop, length-set}
 use lib.Signed.{_≤ℤ_}
-use Rattle.whole.specs.Zed.{P, N, zed}
+use Rattle.whole.specs.Zed.{zed, Cost32}
 use Rattle.whole.proofs.Cases.{and-left, and-right}
 use Rattle.table.specs.Links.{Link, linkOf, links, present, presentBoth, inside, allInside, Arc}
 use Rattle.table.proofs.Joins.{joined, joins-of}
+use Rattle.walks.specs.Costs.{Costs32}
 use Rattle.floyd_warshall.specs.Rounds.{lesser, cell}
 use Rattle.floyd_warshall.specs.Filling.{lowered, linked, poured, Costs}
 use Rattle.floyd_warshall.proofs.Triangle.{lesser-is, lesser-left, lesser-right}
@@ -54,12 +55,12 @@ ends-present m (suc n) zero marks (x ∷ xs) (y ∷ ys) (z ∷ cs) h a b c i = l
 ends-present m (suc n) (suc e) marks (x ∷ xs) (y ∷ ys) (z ∷ cs) h a b c i = ends-present m n e marks xs ys cs (le-of-suc-le-suc h) (le-of-suc-le-suc a) (le-of-suc-le-suc b) (le-of-suc-le-suc c) (and-right (inside m marks (linkOf x y z)) _ i)
 
 -- the cost of an arc is one of the first n
-pub arc-fits : (d : Bool) (n : ℕ) (xs ys : List ℕ) (cs : List ℤ) → Costs cs n → (u v : ℕ) (c : ℤ) → Arc d (links n xs ys cs) u v c → P c + N c ≤ 2 ^ 31
+pub arc-fits : (d : Bool) (n : ℕ) (xs ys : List ℕ) (cs : List ℤ) → Costs cs n → Costs32 (Arc d (links n xs ys cs))
 arc-fits d zero xs ys cs f u v c a = absurd a
 arc-fits d (suc n) [] ys cs f u v c a = absurd a
 arc-fits d (suc n) (x ∷ xs) [] cs f u v c a = absurd a
 arc-fits d (suc n) (x ∷ xs) (y ∷ ys) [] f u v c a = absurd a
-arc-fits d (suc n) (x ∷ xs) (y ∷ ys) (z ∷ cs) f u v c (inl a) = subst (λ (t : ℤ). P t + N t ≤ 2 ^ 31) (a .1) (f 0 (omega arith))
+arc-fits d (suc n) (x ∷ xs) (y ∷ ys) (z ∷ cs) f u v c (inl a) = subst Cost32 (a .1) (f 0 (omega arith))
 arc-fits d (suc n) (x ∷ xs) (y ∷ ys) (z ∷ cs) f u v c (inr a) = arc-fits d n xs ys cs (λ k h. f (suc k) (omega arith)) u v c a
 
 -- ---- one entry lowered
@@ -131,9 +132,9 @@ module _ (p : ℕ) (l : List ℤ) (i j : ℕ) (c : ℤ) (s : length l ≡ p * p)
 -- ---- all links
 module _ (d : Bool) (p : ℕ) (r : List ℕ) where
   -- the rows of every link lie in the matrix
-  abbrev pub Within : List (Link ℤ) → Type 0
-  Within [] = Unit
-  Within (x ∷ xs) = (getD r (x .a) 0 < p) × (getD r (x .b) 0 < p) × Within xs
+  abbrev pub RowsBelow : List (Link ℤ) → Type 0
+  RowsBelow [] = Unit
+  RowsBelow (x ∷ xs) = (getD r (x .a) 0 < p) × (getD r (x .b) 0 < p) × RowsBelow xs
 
   -- an entry that is the cost of an arc
   pub record ArcIn (xs : List (Link ℤ)) (i j : ℕ) (c : ℤ) : Type 0 where
@@ -143,11 +144,11 @@ module _ (d : Bool) (p : ℕ) (r : List ℕ) where
     pub row : getD r u 0 ≡ i
     pub column : getD r v 0 ≡ j
 
-  pub poured-size : (xs : List (Link ℤ)) (l : List ℤ) → Within xs → length l ≡ p * p → length (poured d p r xs l) ≡ p * p
+  pub poured-size : (xs : List (Link ℤ)) (l : List ℤ) → RowsBelow xs → length l ≡ p * p → length (poured d p r xs l) ≡ p * p
   poured-size [] l w s = s
   poured-size (x ∷ xs) l w s = poured-size xs _ (w .2) (linked-size p l _ _ _ s (w .0) (w .1) d)
 
-  pub poured-le : (xs : List (Link ℤ)) (l : List ℤ) → Within xs → length l ≡ p * p → (i j : ℕ) → j < p → cell p (poured d p r xs l) i j ≤ℤ cell p l i j
+  pub poured-le : (xs : List (Link ℤ)) (l : List ℤ) → RowsBelow xs → length l ≡ p * p → (i j : ℕ) → j < p → cell p (poured d p r xs l) i j ≤ℤ cell p l i j
   poured-le [] l w s i j k = omega (arith, zed)
   poured-le (x ∷ xs) l w s i j k =
       let l′ = linked d p l (getD r (x .a) 0) (getD r (x .b) 0) (x .cost) in
@@ -155,7 +156,7 @@ module _ (d : Bool) (p : ℕ) (r : List ℕ) where
       let b : cell p l′ i j ≤ℤ cell p l i j = linked-le p l _ _ _ s (w .0) (w .1) d i j k in
       omega (arith, zed)
 
-  pub poured-low : (xs : List (Link ℤ)) (l : List ℤ) → Within xs → length l ≡ p * p → (u v : ℕ) (c : ℤ) → getD r v 0 < p → Arc d xs u v c → cell p (poured d p r xs l) (getD r u 0) (getD r v 0) ≤ℤ c
+  pub poured-low : (xs : List (Link ℤ)) (l : List ℤ) → RowsBelow xs → length l ≡ p * p → (u v : ℕ) (c : ℤ) → getD r v 0 < p → Arc d xs u v c → cell p (poured d p r xs l) (getD r u 0) (getD r v 0) ≤ℤ c
   poured-low [] l w s u v c k a = absurd a
   poured-low (x ∷ xs) l w s u v c k (inr a) = poured-low xs _ (w .2) (linked-size p l _ _ _ s (w .0) (w .1) d) u v c k a
   poured-low (x ∷ xs) l w s u v c k (inl a) =
@@ -165,7 +166,7 @@ module _ (d : Bool) (p : ℕ) (r : List ℕ) where
       let z : x .cost ≡ c = a .1 in
       omega (arith, zed)
 
-  pub poured-new : (xs : List (Link ℤ)) (l : List ℤ) → Within xs → length l ≡ p * p → (i j : ℕ) → j < p → (cell p (poured d p r xs l) i j ≡ cell p l i j) ⊎ ArcIn xs i j (cell p (poured d p r xs l) i j)
+  pub poured-new : (xs : List (Link ℤ)) (l : List ℤ) → RowsBelow xs → length l ≡ p * p → (i j : ℕ) → j < p → (cell p (poured d p r xs l) i j ≡ cell p l i j) ⊎ ArcIn xs i j (cell p (poured d p r xs l) i j)
   poured-new [] l w s i j k = inl refl
   poured-new (x ∷ xs) l w s i j k = ⊎-elim old (λ a. inr (record { u = a .u; v = a .v; arc = inr (a .arc); row = a .row; column = a .column })) (poured-new xs (linked d p l (getD r (x .a) 0) (getD r (x .b) 0) (x .cost)) (w .2) (linked-size p l _ _ _ s (w .0) (w .1) d) i j k)
     where

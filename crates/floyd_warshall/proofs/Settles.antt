@@ -1,10 +1,9 @@
--- The promise of `floyd_warshall` settles the number, the matrix and the scratch; it goes by the arcs alone; its scratch is within what 01 allows.
+-- The promise of `floyd_warshall` settles the number, the matrix and the scratch, and goes by the arcs alone.
 -- Assumes nothing.
 use mathlib.Core.Path.{_≡_, ap}
 use mathlib.Core.Bool.{_&&_}
 use mathlib.Core.List.{List}
-use Prim.Native.Nat.{ℕ, _+_, _*_, _≤_}
-use native.Mathlib.Omega.{arith}
+use Prim.Native.Nat.{ℕ, _*_}
 use lib.Dec.{leb}
 use lib.IntN.{ℤ}
 use lib.ListN.{length}
@@ -30,7 +29,3 @@ module _ {g g′ : Net ℤ} (same : SameNet g g′) where
   -- so two calls on such maps, with the same buffers, answer the same and leave the same
   pub same-answers : {m m′ m″ : List ℤ} {r r′ r″ : List ℕ} {x y : ℕ} → Promise g m r m′ r′ x → Promise g′ m r m″ r″ y → (x ≡ y) × (m′ ≡ m″) × (r′ ≡ r″)
   same-answers p q = promise-one (promise-arcs p) q
-
--- m places of scratch
-pub scratch-budget : (m a : ℕ) → m ≤ 8 * (m + 1) + 4 * a
-scratch-budget m a = omega arith

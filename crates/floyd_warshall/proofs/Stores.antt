@@ -14,7 +14,7 @@ use Rattle.clean.proofs.Filled.{filled-length, filled-at}
 use Rattle.matrix.proofs.Matrix.{place-in}
 use Rattle.floyd_warshall.specs.Rounds.{cell}
 use Rattle.table.specs.Links.{Link, links}
-use Rattle.whole.specs.Zed.{P, N}
+use Rattle.whole.specs.Zed.{Cost32}
 use Rattle.floyd_warshall.specs.Filling.{Square, Started, shown, Shown, linked, poured, Costs}
 use Rattle.floyd_warshall.proofs.Poured.{next-link, no-link}
 use Rattle.floyd_warshall.proofs.Cells.{cell-same, cell-row, cell-column}
@@ -82,7 +82,7 @@ pub record Pouring (d : Bool) (p : ℕ) (r : List ℕ) (n : ℕ) (xs ys : List �
   pub same : poured d p r (drop e (links n xs ys cs)) l ≡ poured d p r (links n xs ys cs) l₀
 
 module _ {d : Bool} {p : ℕ} {r : List ℕ} {n : ℕ} {xs ys : List ℕ} {cs l₀ : List ℤ} {e : ℕ} {l : List ℤ} (q : Pouring d p r n xs ys cs l₀ e l) where
-  pub pouring-more : {l′ : List ℤ} {c : ℤ} → e < n → (n ≤ length xs) × (n ≤ length ys) × (n ≤ length cs) → length l′ ≡ length l → c ≡ getD cs e (pos 0) → P (getD cs e (pos 0)) + N (getD cs e (pos 0)) ≤ 2 ^ 31 → l′ ≡ linked d p l (getD r (getD xs e 0) 0) (getD r (getD ys e 0) 0) c → Pouring d p r n xs ys cs l₀ (e + 1) l′
+  pub pouring-more : {l′ : List ℤ} {c : ℤ} → e < n → (n ≤ length xs) × (n ≤ length ys) × (n ≤ length cs) → length l′ ≡ length l → c ≡ getD cs e (pos 0) → Cost32 (getD cs e (pos 0)) → l′ ≡ linked d p l (getD r (getD xs e 0) 0) (getD r (getD ys e 0) 0) c → Pouring d p r n xs ys cs l₀ (e + 1) l′
   pouring-more {l′} {c} h k s z f g =
       record {
         within = omega arith;
@@ -91,8 +91,8 @@ module _ {d : Bool} {p : ℕ} {r : List ℕ} {n : ℕ} {xs ys : List ℕ} {cs l�
         same = ap (poured d p r (drop (e + 1) (links n xs ys cs))) (g ∙ ap (linked d p l (getD r (getD xs e 0) 0) (getD r (getD ys e 0) 0)) z) ∙ (sym (ap (λ (t : List (Link ℤ)). poured d p r t l) (next-link n e xs ys cs h (k .0) (k .1) (k .2))) ∙ q .same);
       }
     where
-      go : (x : ℕ) → Dec (x ≡ e) → x < e + 1 → P (getD cs x (pos 0)) + N (getD cs x (pos 0)) ≤ 2 ^ 31
-      go x (yes y) i = subst (λ (t : ℕ). P (getD cs t (pos 0)) + N (getD cs t (pos 0)) ≤ 2 ^ 31) (sym y) f
+      go : (x : ℕ) → Dec (x ≡ e) → x < e + 1 → Cost32 (getD cs x (pos 0))
+      go x (yes y) i = subst (λ (t : ℕ). Cost32 (getD cs t (pos 0))) (sym y) f
       go x (no y) i = q .fits x (omega (arith, y))
 
   pub pouring-done : n ≤ e → Costs cs n × (l ≡ poured d p r (links n xs ys cs) l₀)

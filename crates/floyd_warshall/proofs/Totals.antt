@@ -17,6 +17,7 @@ use Rattle.walks.specs.Pigeon.{In}
 use Rattle.walks.specs.Walk.{Walk, stay, step, Least, Negative}
 use Rattle.walks.proofs.Walk.{join}
 use Rattle.walks.proofs.Cheap.{Cheap, cheap-or}
+use Rattle.walks.specs.Costs.{Costs32}
 use Rattle.floyd_warshall.specs.Rounds.{lesser, after, Diagonal}
 use Rattle.floyd_warshall.proofs.Triangle.{Choice, lesser-is, triangle, below-first}
 
@@ -41,7 +42,7 @@ pub record Filled (Arc : ℕ → ℕ → ℤ → Type 0) (L : List ℕ) (A : ℕ
   pub low : (i j v : ℕ) (c : ℤ) → i < length L → j < length L → getD L j 0 ≡ v → Arc (getD L i 0) v c → A i j ≤ℤ c
   pub real : (i j : ℕ) → i < length L → j < length L → (A i j ≡ pos (2 ^ 50)) ⊎ Walk Arc (getD L i 0) (getD L j 0) (A i j)
 
--- a map with at most 1024 rows L, with arcs between rows alone, and with 32-bit costs
+-- a map with at most 1024 rows L, with arcs between rows alone, and with costs that an i32 holds
 pub record Rowed (Arc : ℕ → ℕ → ℤ → Type 0) (L : List ℕ) : Type 0 where
   pub few : length L ≤ 1024
   pub leave : (u v : ℕ) (c : ℤ) → Arc u v c → (i : ℕ) × (i < length L) × (getD L i 0 ≡ u)
@@ -49,7 +50,7 @@ pub record Rowed (Arc : ℕ → ℕ → ℤ → Type 0) (L : List ℕ) : Type 0 
   pub into : (u v : ℕ) (c : ℤ) → Arc u v c → In v L
   pub row : (i : ℕ) → i < length L → In (getD L i 0) L
   pub one : (i j : ℕ) → i < length L → j < length L → getD L i 0 ≡ getD L j 0 → i ≡ j
-  pub cost : (u v : ℕ) (c : ℤ) → Arc u v c → P c + N c ≤ 2 ^ 31
+  pub cost : Costs32 Arc
 
 module _ {Arc : ℕ → ℕ → ℤ → Type 0} {L : List ℕ} (R : Rowed Arc L) where
   -- a walk that is no dearer, with a total in -2^41 ..= 2^41
@@ -61,7 +62,7 @@ module _ {Arc : ℕ → ℕ → ℤ → Type 0} {L : List ℕ} (R : Rowed Arc L)
     where
       go : Negative Arc ⊎ Cheap Arc (length L * 2 ^ 31) u v t → Negative Arc ⊎ (N t ≤ 2 ^ 41 + P t)
       go (inl n) = inl n
-      go (inr c) = let h : c .s ≤ℤ t = c .cheap in inr (omega (arith, zed, c .near .low, R .few))
+      go (inr c) = let h : c .s ≤ℤ t = c .cheap in inr (omega (arith, zed, c .near, R .few))
 
   -- two entries, added
   join-known : (i k j : ℕ) {s t : ℤ} → Known Arc L i k s → Known Arc L k j t → Known Arc L i j (s ⊕ t)
@@ -203,4 +204,4 @@ module _ {Arc : ℕ → ℕ → ℤ → Type 0} {L : List ℕ} (R : Rowed Arc L)
           where
             go : Negative Arc ⊎ Cheap Arc (length L * 2 ^ 31) (getD L i 0) (getD L j 0) t → ⊥
             go (inl n) = never n
-            go (inr c) = let e : after A (length L) i j ≤ℤ c .s = at-most (c .s) (c .walk) in omega (arith, zed, c .near .high, R .few)
+            go (inr c) = let e : after A (length L) i j ≤ℤ c .s = at-most (c .s) (c .walk) in omega (arith, zed, c .near, R .few)

@@ -11,8 +11,7 @@ use native.Mathlib.Decide.{ℕ-discrete}
 use native.Mathlib.Omega.{arith}
 use lib.IntN.{ℤ, pos}
 use lib.Signed.{ltZ, _≤ℤ_, _<ℤ_}
-use Rattle.whole.specs.Zed.{_⊕_, P, N, zed, sum}
-use Rattle.walks.specs.Near.{Near}
+use Rattle.whole.specs.Zed.{_⊕_, P, N, zed, sum, Within, within-of}
 use Rattle.floyd_warshall.specs.Rounds.{pickZ, lesser, after, Diagonal}
 
 -- which of the two it is
@@ -164,21 +163,20 @@ module _ (A : ℕ → ℕ → ℤ) where
           inr (record { x = h .x; inner = omega (arith, h .inner); low = omega (arith, zed, sum (after A k u k) (after A k k v), sum (after A k k (h .x)) (A (h .x) v), sum (after A k u k) (after A k k (h .x)), sum (after A (suc k) u (h .x)) (A (h .x) v)) })
 
   -- while no diagonal entry is below zero, the entries stay within twice the bound of what stood there first
-  pub stays-near : (p b k : ℕ) → k ≤ p → ((u v : ℕ) → u < p → v < p → Near b (A u v)) → Diagonal A p k → (u v : ℕ) → u < p → v < p → Near (b + b) (after A k u v)
+  pub stays-near : (p b k : ℕ) → k ≤ p → ((u v : ℕ) → u < p → v < p → Within b (A u v)) → Diagonal A p k → (u v : ℕ) → u < p → v < p → Within (b + b) (after A k u v)
   stays-near p b k l near d u v i j = go (last-step k u v)
     where
       top : (u v : ℕ) → u < p → v < p → P (after A k u v) ≤ b + N (after A k u v)
       top u v i j =
-          let n = near u v i j in
           let h : after A k u v ≤ℤ A u v = below-first k u v in
-          omega (arith, zed, n .high, n .low)
+          omega (arith, zed, near u v i j)
 
-      go : (A u v ≤ℤ after A k u v) ⊎ Last k u v → Near (b + b) (after A k u v)
-      go (inl h) = record { high = omega (arith, top u v i j); low = omega (arith, zed, near u v i j .low) }
+      go : (A u v ≤ℤ after A k u v) ⊎ Last k u v → Within (b + b) (after A k u v)
+      go (inl h) = within-of (b + b) (after A k u v) (omega (arith, top u v i j)) (omega (arith, zed, near u v i j))
       go (inr h) =
           let x = h .x in
           let q : x < p = omega (arith, h .inner) in
           let g : after A k u x ⊕ A x v ≤ℤ after A k u v = h .low in
           let w : after A k u u ≤ℤ after A k u x ⊕ after A k x u = triangle p k l d u u x (h .inner) in
           let z : pos 0 ≤ℤ after A k u u = d k u (omega arith) i in
-          record { high = omega (arith, top u v i j); low = omega (arith, zed, top x u q i, near x v q j .low, sum (after A k u x) (A x v), sum (after A k u x) (after A k x u)) }
+          within-of (b + b) (after A k u v) (omega (arith, top u v i j)) (omega (arith, zed, top x u q i, near x v q j, sum (after A k u x) (A x v), sum (after A k u x) (after A k x u)))

@@ -14,7 +14,6 @@ use lib.ListN.{length, getD, set, length-set}
 use lib.Signed.{ltZ, _≤ℤ_, _<ℤ_}
 use Rattle.whole.specs.Zed.{_⊕_, P, N, zed, sum}
 use Rattle.whole.proofs.Cases.{or-no}
-use Rattle.walks.specs.Near.{Near}
 use Rattle.floyd_warshall.specs.Rounds.{lesser, cell, after, Diagonal, reaching, anyBelow, Begun, Refused, Complete}
 use Rattle.floyd_warshall.proofs.Cells.{cell-same, cell-row, cell-column}
 use Rattle.floyd_warshall.proofs.Triangle.{lesser-first, one-more, below-first, kept-row, stays-near}
@@ -97,11 +96,6 @@ pub record Turn (p : ℕ) (l₀ : List ℤ) (k i j : ℕ) (l : List ℤ) : Type 
   pub rest : (v : ℕ) → j ≤ v → v < p → cell p l i v ≡ after (cell p l₀) k i v
   pub next : (u v : ℕ) → i < u → u < p → v < p → cell p l u v ≡ after (cell p l₀) k u v
 
--- a range about zero, as `shorter` asks for it
-near-sum : (b : ℕ) (z : ℤ) → Near b z → P z + N z ≤ b
-near-sum b (pos n) h = omega (arith, h .high)
-near-sum b (negsuc n) h = omega (arith, h .low)
-
 module _ {p : ℕ} {l₀ : List ℤ} where
   pub round-first : Begun p l₀ → Round p l₀ 0 l₀
   unfolding after
@@ -119,7 +113,7 @@ module _ {p : ℕ} {l₀ : List ℤ} where
 
   -- while no diagonal entry is below zero, entries are small
   small : (k : ℕ) → k < p → Begun p l₀ → Diagonal (cell p l₀) p k → (u v : ℕ) → u < p → v < p → P (after (cell p l₀) k u v) + N (after (cell p l₀) k u v) ≤ 2 ^ 60
-  small k h b d u v i j = let e : P (after (cell p l₀) k u v) + N (after (cell p l₀) k u v) ≤ 2 ^ 50 + 2 ^ 50 = near-sum _ _ (stays-near (cell p l₀) p (2 ^ 50) k (omega arith) (b .near) d u v i j) in omega arith
+  small k h b d u v i j = let e : P (after (cell p l₀) k u v) + N (after (cell p l₀) k u v) ≤ 2 ^ 50 + 2 ^ 50 = stays-near (cell p l₀) p (2 ^ 50) k (omega arith) (b .near) d u v i j in omega arith
 
   module _ {k i j : ℕ} {l : List ℤ} (r : Turn p l₀ k i j l) (h : j < p) where
     -- the entry in row k that a turn reads
@@ -208,7 +202,7 @@ module _ {p : ℕ} {l₀ : List ℤ} where
           let z : ltZ a (pos (2 ^ 50)) ≡ false = or-no falls _ g .1 in
           let b : after (cell p l₀) k i v ≤ℤ cell p l₀ i v = below-first (cell p l₀) k i v in
           let n = flat v w in
-          one-more (cell p l₀) k i v ∙ lesser-first (after (cell p l₀) k i v) (after (cell p l₀) k i k ⊕ after (cell p l₀) k k v) (omega (arith, zed, e, r .begun .near i v h w .high, sum (after (cell p l₀) k i k) (after (cell p l₀) k k v)))
+          one-more (cell p l₀) k i v ∙ lesser-first (after (cell p l₀) k i v) (after (cell p l₀) k i k ⊕ after (cell p l₀) k k v) (omega (arith, zed, e, r .begun .near i v h w, sum (after (cell p l₀) k i k) (after (cell p l₀) k k v)))
 
   -- a round is done
   pub round-done : {k i : ℕ} {l : List ℤ} → p ≤ i → Rows p l₀ k i l → Round p l₀ (k + 1) l

@@ -7,7 +7,7 @@ use Prim.Native.Nat.{ℕ, _+_, _*_, _^_, _≤_, _<_}
 use lib.IntN.{ℤ, pos}
 use lib.ListN.{length, getD, set}
 use lib.Signed.{ltZ}
-use Rattle.whole.specs.Zed.{P, N}
+use Rattle.whole.specs.Zed.{Cost32}
 use Rattle.clean.specs.None.{noneI64}
 use Rattle.table.specs.Links.{Link}
 use Rattle.walks.specs.Walk.{Negative, Entry}
@@ -53,9 +53,9 @@ abbrev pub poured : Bool → ℕ → List ℕ → List (Link ℤ) → List ℤ �
 poured d p r [] l = l
 poured d p r (x ∷ xs) l = poured d p r xs (linked d p l (getD r (x .a) 0) (getD r (x .b) 0) (x .cost))
 
--- the first n costs are 32-bit numbers
+-- the first n costs are such that an i32 holds
 abbrev pub Costs : List ℤ → ℕ → Type 0
-Costs cs n = (x : ℕ) → x < n → P (getD cs x (pos 0)) + N (getD cs x (pos 0)) ≤ 2 ^ 31
+Costs cs n = (x : ℕ) → x < n → Cost32 (getD cs x (pos 0))
 
 -- what is shown of an entry: none where it is far
 unfoldable pub shown : ℤ → ℤ

@@ -7,8 +7,7 @@ use Prim.Native.Nat.{ℕ, zero, suc, _+_, _*_, _^_, _≤_, _<_}
 use lib.IntN.{ℤ, pos}
 use lib.ListN.{length, getD}
 use lib.Signed.{ltZ, _≤ℤ_, _<ℤ_}
-use Rattle.whole.specs.Zed.{_⊕_}
-use Rattle.walks.specs.Near.{Near}
+use Rattle.whole.specs.Zed.{_⊕_, Within}
 
 -- `if t then a else b`
 abbrev pub pickZ : Bool → ℤ → ℤ → ℤ
@@ -52,7 +51,7 @@ anyBelow l first step (suc n) = anyBelow l first step n || ltZ (getD l (first + 
 pub record Begun (p : ℕ) (l : List ℤ) : Type 0 where
   pub few : p ≤ 1024
   pub size : length l ≡ p * p
-  pub near : (u v : ℕ) → u < p → v < p → Near (2 ^ 50) (cell p l u v)
+  pub near : (u v : ℕ) → u < p → v < p → Within (2 ^ 50) (cell p l u v)
   pub up : (u : ℕ) → u < p → pos 0 ≤ℤ cell p l u u
 
 -- a diagonal entry that is below zero after some round

@@ -13,7 +13,7 @@ use lib.ListN.{length, getD, drop}
 use lib.Seq.{ext-getD}
 use Rattle.clean.specs.None.{noneU32}
 use Rattle.clean.proofs.Filled.{rest-at}
-use Rattle.whole.specs.Zed.{P, N, zed, sum}
+use Rattle.whole.specs.Zed.{zed, sum, Within}
 use Rattle.whole.proofs.Cases.{clash, other, agree}
 use Rattle.table.specs.Links.{zip3}
 use Rattle.table.proofs.Arcs.{inside-arc, ends-leads}
@@ -138,9 +138,9 @@ module _ {E : ℕ → ℕ → Type 0} where
 module _ {C : Type 0} (g : Net C) (inside : insideNet g ≡ true) where
   pub hops-few : (i v d : ℕ) → i < width g → LeastSteps (LeadsOf g) (getD (nodesOf g) i 0) v d → d < width g
   hops-few i v d h l =
-      let w = least-within (nodesOf g) 1 (λ x y c a. present-in g y (leads-has g inside x y (a .0) .1)) (member (nodesOf g) i h) (λ x y c a. subst (λ (z : ℤ). P z + N z ≤ 1) (sym (a .1)) (omega arith)) (no-neg _) (least-of l) in
+      let w = least-within (nodesOf g) 1 (λ x y c a. present-in g y (leads-has g inside x y (a .0) .1)) (member (nodesOf g) i h) (λ x y c a. subst (Within 1) (sym (a .1)) (omega arith)) (no-neg _) (least-of l) in
       let n : ℕ = w .0 in
-      let a : P (pos d) ≤ n * 1 + N (pos d) = w .2 .0 in
+      let a : Within (n * 1) (pos d) = w .2 in
       let few : n < width g = w .1 in
       omega (arith, zed)
 
@@ -219,7 +219,3 @@ module _ {C : Type 0} {g g′ : Net C} (s : SameNet g g′) where
 
   pub same-answers : {b e e′ : Buffers} {no no′ p p′ : ℕ} → Promise g b e no p → Promise g′ b e′ no′ p′ → (no ≡ no′) × (p ≡ p′) × (e ≡ e′)
   same-answers a c = answers-ends ends-of (s .whole) a c
-
--- ---- the scratch is within what 01 allows
-pub scratch-budget : (m a : ℕ) → (m + 1) + a + m + (m + 1) ≤ 8 * (m + 1) + 4 * a
-scratch-budget m a = omega arith

@@ -1,9 +1,9 @@
--- From what the parts gave to the promise: the answer of `johnson`, over plain lists. And its scratch keeps to the budget.
+-- From what the parts gave to the promise: the answer of `johnson`, over plain lists.
 -- Assumes nothing.
 use mathlib.Core.Path.{_≡_, refl, sym, ap, _∙_, subst}
 use mathlib.Core.Bool.{Bool, true, false}
 use mathlib.Core.List.{List}
-use Prim.Native.Nat.{ℕ, _+_, _*_, _≤_}
+use Prim.Native.Nat.{ℕ, _*_, _≤_}
 use native.Mathlib.Omega.{arith}
 use lib.IntN.{ℤ, pos}
 use lib.ListN.{length}
@@ -18,10 +18,6 @@ use Rattle.johnson.specs.Parts.{refusalNo, Room, Passed, Solved}
 use Rattle.turns.proofs.Firsts.{memory-roomy}
 use Rattle.search.proofs.Lists.{wiped-memory}
 use Rattle.johnson.proofs.Refusals.{not-refused, passed}
-
--- the scratch needs at most 8(m + 1) + 4a entries
-pub budget : (m a : ℕ) → (m + 1) + a + a + m + m + m + m + m + m ≤ 8 * (m + 1) + 4 * a
-budget m a = omega arith
 
 module _ (g : Net ℤ) (matrix : List ℤ) (s : Scratch) (ok : refusalNo g matrix s ≡ 0) where
   p : Passed g matrix s

@@ -4,7 +4,7 @@
 use mathlib.Core.Path.{_≡_, refl, sym, ap, _∙_, subst}
 use mathlib.Core.Bool.{Bool, true, false}
 use mathlib.Core.List.{List, [], _∷_}
-use Prim.Native.Nat.{ℕ, zero, suc, _+_, _-_, _≤_, _<_, _^_}
+use Prim.Native.Nat.{ℕ, zero, suc, _+_, _≤_, _<_, _^_}
 use native.Mathlib.Numerals.{add-one}
 use native.Mathlib.Omega.{arith}
 use native.Mathlib.Decide.{decLt}
@@ -12,13 +12,14 @@ use lib.IntN.{ℤ, pos, negsuc}
 use lib.Signed.{_≤ℤ_}
 use lib.ListN.{length, getD, drop, length-drop}
 use lib.Seq.{ext-getD, getD-drop}
-use Rattle.whole.specs.Zed.{P, N, zed}
+use Rattle.whole.specs.Zed.{P, zed}
 use Rattle.whole.proofs.Cases.{clash}
 use Rattle.clean.specs.Fill.{filled}
 use Rattle.clean.proofs.Filled.{filled-length, filled-at, rest-at}
 use Rattle.table.specs.Links.{Link, links, arcs, starts, Arc}
 use Rattle.walks.specs.Shift.{Shifted}
 use Rattle.walks.proofs.Shift.{shifted-over}
+use Rattle.walks.specs.Costs.{Costs32}
 use Rattle.net.specs.Net.{Net, netOf, ArcOf, wholeNet, insideNet, sizeOf, nodesOf, width}
 use Rattle.net.proofs.Bounds.{whole-ints, width-small, size-most}
 use Rattle.net.proofs.Same.{arc-has, arc-below}
@@ -30,7 +31,7 @@ use Rattle.rows.proofs.Segments.{starts-mono, starts-le}
 use Rattle.rows.proofs.Graph.{here}
 use Rattle.rows.proofs.Kept.{kept-none, kept-more}
 use Rattle.rows.proofs.Maps.{links-room, ready-ints, net-room, arcs-are, net-sound, net-kept, row-small}
-use Rattle.johnson.specs.Rounds.{label, tableOf, Small, Deep}
+use Rattle.johnson.specs.Rounds.{label, tableOf, Deep}
 use Rattle.johnson.specs.Potentials.{ArcsOf, Ask, Potentials, Answered}
 use Rattle.johnson.specs.Shifting.{start, Listed, ShiftedTo}
 use Rattle.johnson.specs.Parts.{Even, Ripe, Laid, Prepared}
@@ -127,7 +128,7 @@ module _ (m n : ℕ) (d : Bool) (marks xs ys : List ℕ) (cs : List ℤ) {s : Li
     long : length h″ ≡ m
     long = a .long ∙ (ap length e ∙ (filled-length m (pos 0) h (omega (arith, ripe .heights)) ∙ ripe .heights))
 
-    module _ {os hs : List ℕ} {ws : List ℤ} (r : Rows A m s (listsOf os hs ws)) (small : rows.Small d (links n xs ys cs)) where
+    module _ {os hs : List ℕ} {ws : List ℤ} (r : Rows A m s (listsOf os hs ws)) (small : Costs32 (Arc d (links n xs ys cs))) where
       abbrev nb : Lists ℤ
       nb = listsOf os hs ws
 

@@ -10,11 +10,11 @@ use lib.IntN.{ℤ, pos, negsuc}
 use lib.Signed.{_≤ℤ_}
 use lib.ListN.{length, set, length-set}
 use lib.Seq.{getD-set-same, getD-set-other}
-use Rattle.whole.specs.Zed.{_⊕_, P, N, zed, sum}
+use Rattle.whole.specs.Zed.{_⊕_, P, N, zed, sum, Cost32}
 use Rattle.whole.proofs.Cases.{clash}
 use Rattle.walks.specs.Walk.{Walk}
 use Rattle.walks.proofs.Walk.{join, arc}
-use Rattle.johnson.specs.Rounds.{label, lowers, lowered, looked, rounds, Reached, Small, Shallow}
+use Rattle.johnson.specs.Rounds.{label, lowers, lowered, looked, rounds, Reached, Shallow}
 
 -- one of the two parts of a number is 0
 pub parts : (z : ℤ) → P z - N z ≡ P z
@@ -71,7 +71,7 @@ module _ (u v : ℕ) (c : ℤ) (h : List ℤ) where
         (λ e. let k : label (set h v (label h u ⊕ c)) v ≡ label h u ⊕ c = getD-set-same h v (label h u ⊕ c) (pos 0) below in omega (arith, zed))
         (λ e. lowers-still e)
 
-    pub look-shallow : {m k : ℕ} → Small c → Shallow m k h → Shallow m (k + 1) (lowered u v c h)
+    pub look-shallow : {m k : ℕ} → Cost32 c → Shallow m k h → Shallow m (k + 1) (lowered u v c h)
     look-shallow {m} {k} small s = record {
       long = look-long ∙ s .long;
       high = λ x. by-look (λ (l : List ℤ). P (label l x) ≡ 0) (λ e. by-store (λ (z : ℤ). P z ≡ 0) x below (λ q. omega (arith, lowers-below e, s .high v, parts (label h u ⊕ c))) (s .high x)) (λ e. s .high x);
@@ -135,7 +135,7 @@ module _ (d : Bool) (u v : ℕ) (c : ℤ) (h : List ℤ) where
             let q : label (lowered u v c h) v ≤ℤ label h v = look-falls u v c h belowV v in
             omega (arith, zed, sum (label (lowered u v c h) v) c, sum (label h v) c)
 
-    pub link-shallow : {m k : ℕ} → Small c → Shallow m k h → Shallow m (k + 2) (looked d u v c h)
+    pub link-shallow : {m k : ℕ} → Cost32 c → Shallow m k h → Shallow m (k + 2) (looked d u v c h)
     link-shallow {m} {k} small s =
         let one = look-shallow u v c h belowV small s in
         by-link (λ (l : List ℤ). Shallow m (k + 2) l)

@@ -2,17 +2,18 @@
 -- Assumes nothing.
 use mathlib.Core.Path.{_≡_, refl, sym, ap, _∙_, subst}
 use mathlib.Core.List.{List}
-use Prim.Native.Nat.{ℕ, _+_, _-_, _≤_, _<_}
+use Prim.Native.Nat.{ℕ, _+_, _≤_, _<_}
 use native.Mathlib.Omega.{arith}
 use native.Mathlib.Decide.{ℕ-discrete, decLt}
 use lib.IntN.{ℤ, pos}
 use lib.ListN.{length, getD, set, length-set}
 use lib.Seq.{getD-set-same, getD-set-other}
+use Rattle.whole.specs.Zed.{Cost32}
 use Rattle.clean.proofs.Filled.{no-default}
 use Rattle.rows.specs.Rows.{Lists, listsOf}
 use Rattle.rows.specs.RowArc.{RowArc}
 use Rattle.walks.specs.Shift.{Shifted}
-use Rattle.johnson.specs.Rounds.{label, Small}
+use Rattle.johnson.specs.Rounds.{label}
 use Rattle.johnson.specs.Shifting.{shiftedCost, start, Listed, ShiftedTo, RowShifted}
 
 -- rows that follow one another
@@ -73,8 +74,8 @@ module _ {m u : ℕ} {os hs : List ℕ} {h ws ws′ : List ℤ} {i : ℕ} (l : u
     pub row-head : (i < length hs) × (getD hs i 0 < length h)
     row-head = (omega (arith, w .roomH, row-place), omega (arith, w .inside i row-place, w .long))
 
-    pub row-small : Small (getD ws′ i (pos 0))
-    row-small = subst Small (sym (q .still i (omega arith))) (w .small i (q .from) row-place)
+    pub row-small : Cost32 (getD ws′ i (pos 0))
+    row-small = subst Cost32 (sym (q .still i (omega arith))) (w .small i (q .from) row-place)
 
     stored : Shifting m u os hs h ws (set ws′ i (shiftedCost h u (getD hs i 0) (getD ws′ i (pos 0)))) (i + 1)
     stored = record {
@@ -103,7 +104,7 @@ listed-on {m} {u} {os} w l s = record {
   roomH = w .roomH;
   roomW = omega (arith, w .roomW, s .long);
   inside = w .inside;
-  small = λ j a b. subst Small (sym (s .rest j a)) (w .small j (omega (arith, w .rising 0 u (omega arith) (omega arith))) b);
+  small = λ j a b. subst Cost32 (sym (s .rest j a)) (w .small j (omega (arith, w .rising 0 u (omega arith) (omega arith))) b);
   long = w .long;
   deep = w .deep;
 }

@@ -4,13 +4,13 @@ use mathlib.Core.Path.{_≡_, refl, sym, _∙_, subst}
 use mathlib.Core.Bool.{Bool, true, false}
 use mathlib.Core.List.{List}
 use mathlib.Core.Logic.{inl, inr}
-use Prim.Native.Nat.{ℕ, _+_, _-_, _*_, _≤_, _^_}
+use Prim.Native.Nat.{ℕ, _*_, _≤_, _^_}
 use native.Mathlib.Omega.{arith}
 use lib.IntN.{ℤ, pos, negℤ}
 use lib.Signed.{ltZ, _≤ℤ_}
-use Rattle.whole.specs.Zed.{_⊕_, _⊖_, P, N, zed, sum, neg}
+use Rattle.whole.specs.Zed.{_⊕_, _⊖_, N, zed, sum, neg, Cost32}
 use Rattle.clean.specs.None.{noneI64}
-use Rattle.walks.specs.Walk.{Walk, stay, step, Least, Entry}
+use Rattle.walks.specs.Walk.{Walk, stay, step, Least, Total}
 use Rattle.walks.specs.Shift.{Shifted}
 use Rattle.walks.proofs.Shift.{shift, shift-least}
 use Rattle.johnson.specs.Rounds.{label}
@@ -27,7 +27,7 @@ module _ {Arc : ℕ → ℕ → ℤ → Type 0} {p : ℕ} (h : List ℤ) (pot : 
 
   pub shifted-high : p ≤ 1024 → {u v : ℕ} {c : ℤ} → Arc u v c → shiftedCost h u v c ≤ℤ pos (2 ^ 41)
   shifted-high few {u} {v} {c} a =
-      let s : P c + N c ≤ 2 ^ 31 = pot .small u v c a in
+      let s : Cost32 c = pot .small u v c a in
       let k : N (label h v) ≤ 1023 * 2 ^ 31 = within in
       omega (arith, zed, pot .high u, pot .high v, sum c (label h u), sum (c ⊕ label h u) (negℤ (label h v)), neg (label h v))
     where
@@ -52,15 +52,15 @@ pub back-none : (h : List ℤ) (s v : ℕ) (d : ℤ) → ltZ noneI64 d ≡ false
 unfolding shiftedBack
 back-none h s v d e = rw e
 
--- an entry found over shifted costs, shifted back, is the entry
-pub entry-back : {Arc : ℕ → ℕ → ℤ → Type 0} {p : ℕ} (h : List ℤ) → Potentials Arc p h → (s v : ℕ) (d : ℤ) → Entry (Shifted Arc (label h)) s v d → Entry Arc s v (shiftedBack h s v d)
-entry-back {Arc} h pot s v d (inl l) = go (ltZ noneI64 d) refl
+-- a total found over shifted costs, shifted back, is the total
+pub total-back : {Arc : ℕ → ℕ → ℤ → Type 0} {p : ℕ} (h : List ℤ) → Potentials Arc p h → (s v : ℕ) (d : ℤ) → Total (Shifted Arc (label h)) s v d → Total Arc s v (shiftedBack h s v d)
+total-back {Arc} h pot s v d (inl l) = go (ltZ noneI64 d) refl
   where
-    go : (b : Bool) → ltZ noneI64 d ≡ b → Entry Arc s v (shiftedBack h s v d)
+    go : (b : Bool) → ltZ noneI64 d ≡ b → Total Arc s v (shiftedBack h s v d)
     go true e = inl (subst (Least Arc s v) (sym (back-total h s v d e)) (shift-least (label h) l))
     go false e = let k : pos 0 ≤ℤ d = shifted-walk h pot (l .walk) in absurd (omega (arith, zed))
-entry-back {Arc} h pot s v d (inr q) = go (ltZ noneI64 d) refl
+total-back {Arc} h pot s v d (inr q) = go (ltZ noneI64 d) refl
   where
-    go : (b : Bool) → ltZ noneI64 d ≡ b → Entry Arc s v (shiftedBack h s v d)
+    go : (b : Bool) → ltZ noneI64 d ≡ b → Total Arc s v (shiftedBack h s v d)
     go true e = let k : d ≡ noneI64 = q .0 in absurd (omega (arith, zed))
     go false e = inr (back-none h s v d e, λ t w. q .1 _ (shift (label h) w refl))

@@ -5,7 +5,7 @@ use mathlib.Core.Path.{_≡_, refl, sym, ap, _∙_, subst}
 use mathlib.Core.Bool.{Bool, true, false}
 use mathlib.Core.List.{List}
 use mathlib.Core.Logic.{inl, inr}
-use Prim.Native.Nat.{ℕ, suc, _+_, _-_, _*_, _≤_, _<_, _^_}
+use Prim.Native.Nat.{ℕ, suc, _+_, _*_, _≤_, _<_, _^_}
 use native.Mathlib.Nat.{mul-le-mul-right}
 use native.Mathlib.Omega.{arith}
 use native.Mathlib.Decide.{ℕ-discrete}
@@ -13,13 +13,14 @@ use lib.IntN.{ℤ, pos, negsuc}
 use lib.Signed.{ltZ, _≤ℤ_, _<ℤ_}
 use lib.ListN.{length, getD, set, length-set}
 use lib.Seq.{getD-set-same, getD-set-other}
-use Rattle.whole.specs.Zed.{_⊕_, P, N, zed, sum}
+use Rattle.whole.specs.Zed.{_⊕_, zed, sum, Within}
 use Rattle.whole.proofs.Cases.{clash}
 use Rattle.clean.specs.None.{noneI64}
 use Rattle.table.specs.Links.{present}
 use Rattle.walks.specs.Pigeon.{In}
-use Rattle.walks.specs.Walk.{Walk, stay, step, Entry}
+use Rattle.walks.specs.Walk.{Walk, stay, step, Total}
 use Rattle.walks.proofs.Cheap.{least-within}
+use Rattle.walks.specs.Costs.{Costs}
 use Rattle.net.specs.Net.{rising}
 use Rattle.net.proofs.Nodes.{count-most, ranked, rising-in, present-yes, present-no}
 use Rattle.net.proofs.Lists.{count-yes, count-no}
@@ -101,13 +102,13 @@ walk-up f {t = r} (step {u} {v} {c} {t} a w e) =
     let q : pos 0 ≤ℤ t = walk-up f w in
     omega (arith, zed, sum c t)
 
-pub entry-moderate : {m : ℕ} {nb : Lists ℤ} → Even m nb → (s v : ℕ) (d : ℤ) → s < m → Entry (RowArc m nb) s v d → Moderate d
-entry-moderate {m} {nb} w s v d l (inl q) t =
+pub total-moderate : {m : ℕ} {nb : Lists ℤ} → Even m nb → (s v : ℕ) (d : ℤ) → s < m → Total (RowArc m nb) s v d → Moderate d
+total-moderate {m} {nb} w s v d l (inl q) t =
     let k = least-within all (2 ^ 42) (λ x y c a. inside y (w .rows .inside x y c a)) (inside s l) costs (λ x a z r o. walk-up (w .up) o) q in
-    let b : pos 0 ≤ℤ d = walk-up (w .up) (q .walk) in
     let n : k .0 ≤ 1024 = omega (arith, k .1, count-most (λ (i : ℕ). true) m, w .rows .bounded) in
     let h : k .0 * 2 ^ 42 ≤ 1024 * 2 ^ 42 = mul-le-mul-right (2 ^ 42) n in
-    near (k .0 * 2 ^ 42) (k .2 .0) b h
+    let z : Within (k .0 * 2 ^ 42) d = k .2 in
+    omega arith
   where
     all : List ℕ
     all = rising (λ (i : ℕ). true) m
@@ -115,16 +116,9 @@ entry-moderate {m} {nb} w s v d l (inl q) t =
     inside : (y : ℕ) → y < m → In y all
     inside y h = rising-in (λ (i : ℕ). true) m y h refl
 
-    costs : (x y : ℕ) (c : ℤ) → RowArc m nb x y c → P c + N c ≤ 2 ^ 42
+    costs : Costs (2 ^ 42) (RowArc m nb)
     costs x y c a = let p : pos 0 ≤ℤ c = w .up x y c a in omega (arith, zed, w .cheap x y c a)
-
-    near : (b : ℕ) → P d ≤ b + N d → pos 0 ≤ℤ d → b ≤ 1024 * 2 ^ 42 → P d + N d ≤ 2 ^ 60
-    near b p q h = parts d p q h
-      where
-        parts : (z : ℤ) → P z ≤ b + N z → pos 0 ≤ℤ z → b ≤ 1024 * 2 ^ 42 → P z + N z ≤ 2 ^ 60
-        parts (pos i) p q h = omega arith
-        parts (negsuc i) p q h = absurd (omega (arith, zed))
-entry-moderate w s v d l (inr q) t = let e : d ≡ noneI64 = q .0 in absurd (omega (arith, zed))
+total-moderate w s v d l (inr q) t = let e : d ≡ noneI64 = q .0 in absurd (omega (arith, zed))
 
 -- the search may run, and finds an entry for each index: no weight is below 0
 pub cheap : {m : ℕ} {nb : Lists ℤ} → Even m nb → Cheap m nb
@@ -163,7 +157,7 @@ module _ {m p : ℕ} {marks : List ℕ} {nb : Lists ℤ} {h matrix : List ℤ} (
         small = place-small;
         room = omega (arith, row-in p i below, can .room, can .width);
         deep = can .deep;
-        moderate = λ v k. entry-moderate (can .even) u v (getD ds v (pos 0)) l (found v k);
+        moderate = λ v k. total-moderate (can .even) u v (getD ds v (pos 0)) l (found v k);
       }
 
       pub row-made : {ds matrix′ : List ℤ} → Found m u nb ds → RowShown m (i * p) u m marks h ds matrix matrix′ → RowMade m p u marks nb h matrix matrix′
@@ -176,7 +170,7 @@ module _ {m p : ℕ} {marks : List ℕ} {nb : Lists ℤ} {h matrix : List ℤ} (
           go : (x v : ℕ) → x < u + 1 → v < m → present m marks x ≡ true → present m marks v ≡ true → Dec (x ≡ u) → Shown m nb h x v (getD matrix′ (rank m marks x * p + rank m marks v) (pos 0))
           go x v k b q e (yes z) =
               subst (λ (y : ℕ). Shown m nb h y v (getD matrix′ (rank m marks y * p + rank m marks v) (pos 0))) (sym z)
-              (subst (λ (y : ℕ). Shown m nb h u v (getD matrix′ (y * p + rank m marks v) (pos 0))) is (record { found = getD ds v (pos 0); entry = found v b; is = r .each v b e }))
+              (subst (λ (y : ℕ). Shown m nb h u v (getD matrix′ (y * p + rank m marks v) (pos 0))) is (record { found = getD ds v (pos 0); total = found v b; is = r .each v b e }))
           go x v k b q e (no z) =
               let a : rank m marks v < p = omega (arith, can .width, ranked (present m marks) m v b e .within) in
               let c : rank m marks x < i = omega (arith, is, ranked (present m marks) u x (omega (arith, z)) q .within) in

@@ -3,35 +3,42 @@
 use mathlib.Core.Path.{_≡_, refl, sym, ap, _∙_, subst}
 use mathlib.Core.Bool.{Bool, true, false}
 use mathlib.Core.List.{List, [], _∷_, _++_}
-use Prim.Native.Nat.{ℕ, zero, suc, _+_, _-_, _*_, _≤_, _<_}
+use Prim.Native.Nat.{ℕ, zero, suc, _+_, _*_, _≤_, _<_}
 use native.Mathlib.Omega.{arith}
 use lib.IntN.{ℤ, pos}
 use lib.ListN.{length, getD, take, drop, length-append, length-drop}
 use lib.Seq.{drop-at, length-take-le}
 use Rattle.whole.proofs.Cases.{clash}
 use Rattle.table.specs.Links.{present}
-use Rattle.walks.specs.Walk.{Negative, Entry}
-use Rattle.walks.proofs.Over.{entry-over}
-use Rattle.net.specs.Net.{Net, ArcOf, has, nodesOf, sizeOf, width}
+use Rattle.walks.specs.Walk.{Negative, Entry, Total}
+use Rattle.walks.proofs.Over.{entry-of, total-over}
+use Rattle.net.specs.Net.{Net, ArcOf, insideNet, has, nodesOf, sizeOf, width}
 use Rattle.net.proofs.Nodes.{node-marked, rank-of, width-most}
+use Rattle.net.proofs.Totals.{total-within}
 use Rattle.rows.specs.Rows.{Lists, listsOf}
 use Rattle.rows.specs.Kept.{Kept}
 use Rattle.rows.proofs.Kept.{kept-none}
 use Rattle.turns.specs.Memory.{memoryOf}
 use Rattle.turns.specs.Firsts.{KeptMemory}
 use Rattle.matrix.specs.Matrix.{square, Matrix}
+use Rattle.matrix.proofs.Matrix.{closed-up}
 use Rattle.johnson.specs.Promise.{Scratch, scratchOf}
 use Rattle.johnson.specs.Parts.{rank, CanFill, Shown, Filled, Ripe, Laid, KeptAll, Prepared, Passed, Solved}
 use Rattle.johnson.proofs.Sweeps.{none-below}
-use Rattle.johnson.proofs.Shifts.{entry-back}
+use Rattle.johnson.proofs.Shifts.{total-back}
 use Rattle.turns.proofs.Firsts.{memory-none}
 use Rattle.johnson.proofs.Lays.{same-rest, pot-deep, laid-even}
 
 -- ---- the matrix
-module _ {g : Net ℤ} {nb : Lists ℤ} {h : List ℤ} (laid : Laid g nb h) where
-  -- what is shown is the map's entry
-  shown-entry : (u v : ℕ) (x : ℤ) → Shown (g .bound) nb h u v x → Entry (ArcOf g) u v x
-  shown-entry u v x w = subst (Entry (ArcOf g) u v) (sym (w .is)) (entry-back h (laid .potentials) u v (w .found) (entry-over (laid .shifted) (laid .back) (w .entry)))
+module _ {g : Net ℤ} {nb : Lists ℤ} {h : List ℤ} (laid : Laid g nb h) (inside : insideNet g ≡ true) (few : width g ≤ 1024) where
+  pub no-negative : Negative (ArcOf g) → ⊥
+  no-negative = none-below h (laid .potentials .resting)
+
+  -- what is shown is the map's total, in its range
+  shown-entry : (u v : ℕ) (x : ℤ) → has g u ≡ true → Shown (g .bound) nb h u v x → Entry (ArcOf g) u v x
+  shown-entry u v x i w =
+      entry-of (total-within g u v x inside i few (laid .potentials .small) (λ y a t r o. closed-up no-negative o))
+      (subst (Total (ArcOf g) u v) (sym (w .is)) (total-back h (laid .potentials) u v (w .found) (total-over (laid .shifted) (laid .back) (w .total))))
 
   pub matrix-of : {before after : List ℤ} → Filled (g .bound) (width g) (g .bound) (g .marks) nb h before after → Matrix g before after
   matrix-of {before} {after} w = record { long = w .long; each = each; rest = same-rest (square g) before after (w .long) (w .rest) }
@@ -42,10 +49,7 @@ module _ {g : Net ℤ} {nb : Lists ℤ} {h : List ℤ} (laid : Laid g nb h) wher
           let l = node-marked (has g) (g .bound) j b in
           subst (λ (x : ℕ). Entry (ArcOf g) (getD (nodesOf g) i 0) (getD (nodesOf g) j 0) (getD after (x * width g + j) (pos 0))) (rank-of (has g) (g .bound) i a)
           (subst (λ (y : ℕ). Entry (ArcOf g) (getD (nodesOf g) i 0) (getD (nodesOf g) j 0) (getD after (rank (g .bound) (g .marks) (getD (nodesOf g) i 0) * width g + y) (pos 0))) (rank-of (has g) (g .bound) j b)
-          (shown-entry _ _ _ (w .each (getD (nodesOf g) i 0) (getD (nodesOf g) j 0) (k .0) (l .0) (k .1) (l .1))))
-
-  pub no-negative : Negative (ArcOf g) → ⊥
-  no-negative = none-below h (laid .potentials .resting)
+          (shown-entry _ _ _ (k .1) (w .each (getD (nodesOf g) i 0) (getD (nodesOf g) j 0) (k .0) (l .0) (k .1) (l .1))))
 
 -- ---- the part used of a slice
 module _ {X : Type 0} where
@@ -108,10 +112,10 @@ module _ {g : Net ℤ} {matrix : List ℤ} {s : Scratch} (p : Passed g matrix s)
           → Solved g matrix s matrix′ (scratchOf os hs ws heights ds ps hp pl ks) false
       solved-no {matrix′} f z =
           let f′ = subst (λ (x : ℕ). Filled m x m (g .marks) (listsOf os hs ws) (take m heights) matrix matrix′) is f in
-          let x = matrix-of laid f′ in
+          let x = matrix-of laid (p .inside) few f′ in
           record {
             kept = record { rows = w .kept; heights = kept-part m (s .heights) part (p .room .heights) (w .long); memory = z };
             output = record { long = x .long; rest = x .rest };
             yes = λ q. absurd (clash q refl);
-            no = λ q. (no-negative laid, x);
+            no = λ q. (no-negative laid (p .inside) few, x);
           }

@@ -9,8 +9,8 @@ use native.Mathlib.Decide.{ℕ-discrete}
 use lib.IntN.{ℤ}
 use lib.Signed.{_≤ℤ_}
 use lib.ListN.{length}
-use Rattle.whole.specs.Zed.{_⊕_, P, N}
-use Rattle.johnson.specs.Rounds.{label, lowers, lowered, looked, Table, tail, head, cost, swept, rounds, Still, StillTo, Small, Shallow, Linked, Deep, Looked, forth, back, Tested, Swept, RoundsDone, TestedAll}
+use Rattle.whole.specs.Zed.{_⊕_, P, N, Cost32}
+use Rattle.johnson.specs.Rounds.{label, lowers, lowered, looked, Table, tail, head, cost, swept, rounds, Still, StillTo, Shallow, Linked, Deep, Looked, forth, back, Tested, Swept, RoundsDone, TestedAll}
 use Rattle.johnson.specs.Potentials.{Ask}
 use Rattle.johnson.proofs.Looks.{lowered-no, lowers-still, looked-one, looked-two, look-shallow, link-long, link-shallow}
 use Rattle.whole.proofs.Cases.{clash}
@@ -18,7 +18,7 @@ use Rattle.johnson.proofs.Sweeps.{swept-none, swept-more, rounds-none, 
 
 -- ---- a link
 -- the room for a look back
-pub deep-next : (u v x : ℕ) (c : ℤ) (h h1 : List ℤ) → v < length h → Small c → ((y : ℕ) → Deep (2 ^ 59) (label h y)) → h1 ≡ lowered u v c h → Deep (2 ^ 60) (label h1 x)
+pub deep-next : (u v x : ℕ) (c : ℤ) (h h1 : List ℤ) → v < length h → Cost32 c → ((y : ℕ) → Deep (2 ^ 59) (label h y)) → h1 ≡ lowered u v c h → Deep (2 ^ 60) (label h1 x)
 deep-next u v x c h h1 below small deep e =
     let s = look-shallow u v c h below {m = length h} {k = 2 ^ 28} small (record { long = refl; high = λ y. deep y .high; low = λ y. omega (arith, deep y .low) }) in
     subst (λ (l : List ℤ). Deep (2 ^ 60) (label l x)) (sym e) (record { high = s .high x; low = omega (arith, s .low x) })
@@ -27,14 +27,14 @@ pub deep-more : (z : ℤ) → Deep (2 ^ 59) z → Deep (2 ^ 60) z
 deep-more z d = record { high = d .high; low = omega (arith, d .low) }
 
 module _ {d : Bool} (u v : ℕ) (c : ℤ) (h : List ℤ) where
-  pub looked-directed : {h′ : List ℤ} {r : Bool} → d ≡ true → r ≡ lowers u v c h → Small c → h′ ≡ lowered u v c h → Looked d u v c h h′ r
+  pub looked-directed : {h′ : List ℤ} {r : Bool} → d ≡ true → r ≡ lowers u v c h → Cost32 c → h′ ≡ lowered u v c h → Looked d u v c h h′ r
   looked-directed e f small g = record {
     leaves = g ∙ sym (looked-one d u v c h e);
     small = small;
     quiet = λ q. (g ∙ lowered-no u v c h (sym f ∙ q), record { there = lowers-still u v c h (sym f ∙ q); return = λ z. absurd (clash e z) });
   }
 
-  module _ {h1 h2 : List ℤ} {r1 r2 : Bool} (e : d ≡ false) (f1 : r1 ≡ lowers u v c h) (small : Small c) (g1 : h1 ≡ lowered u v c h) (f2 : r2 ≡ lowers v u c h1) (g2 : h2 ≡ lowered v u c h1) where
+  module _ {h1 h2 : List ℤ} {r1 r2 : Bool} (e : d ≡ false) (f1 : r1 ≡ lowers u v c h) (small : Cost32 c) (g1 : h1 ≡ lowered u v c h) (f2 : r2 ≡ lowers v u c h1) (g2 : h2 ≡ lowered v u c h1) where
     both-leave : h2 ≡ looked d u v c h
     both-leave = g2 ∙ (ap (lowered v u c) g1 ∙ sym (looked-two d u v c h e))
 
@@ -55,10 +55,10 @@ module _ {d : Bool} (u v : ℕ) (c : ℤ) (h : List ℤ) where
   pub tested-there : {r : Bool} → r ≡ lowers u v c h → r ≡ true → Tested d u v c h true
   tested-there f q = record { improves = λ z. forth (sym f ∙ q); still = λ z. absurd (clash refl z) }
 
-  pub tested-directed : {r : Bool} → d ≡ true → r ≡ lowers u v c h → r ≡ false → Small c → Tested d u v c h false
+  pub tested-directed : {r : Bool} → d ≡ true → r ≡ lowers u v c h → r ≡ false → Cost32 c → Tested d u v c h false
   tested-directed e f q small = record { improves = λ z. absurd (clash z refl); still = λ z. (record { there = lowers-still u v c h (sym f ∙ q); return = λ y. absurd (clash e y) }, small) }
 
-  pub tested-back : {r r2 : Bool} → d ≡ false → r ≡ lowers u v c h → r ≡ false → Small c → r2 ≡ lowers v u c h → Tested d u v c h r2
+  pub tested-back : {r r2 : Bool} → d ≡ false → r ≡ lowers u v c h → r ≡ false → Cost32 c → r2 ≡ lowers v u c h → Tested d u v c h r2
   tested-back e f q small g = record { improves = λ z. back e (sym g ∙ z); still = λ z. (record { there = lowers-still u v c h (sym f ∙ q); return = λ y. lowers-still v u c h (sym g ∙ z) }, small) }
 
 -- ---- a round
@@ -146,7 +146,7 @@ module _ {t : Table} {n p : ℕ} {h₀ h : List ℤ} {i : ℕ} (few : p ≤ 1024
 pub record Testing (t : Table) (n k : ℕ) (h : List ℤ) : Type 0 where
   pub some : k ≤ n
   pub still : StillTo t k h
-  pub small : (j : ℕ) → j < k → Small (cost t j)
+  pub small : (j : ℕ) → j < k → Cost32 (cost t j)
 
 pub test-starts : (t : Table) (n : ℕ) (h : List ℤ) → Testing t n 0 h
 test-starts t n h = record { some = omega arith; still = λ j l. absurd (omega arith); small = λ j l. absurd (omega arith) }
@@ -156,13 +156,13 @@ module _ {t : Table} {n k : ℕ} {h : List ℤ} (s : Testing t n k h) where
   test-asks sound w l = ((sound .tails k l, sound .heads k l), λ v. record { high = w .high v; low = omega (arith, w .low v) })
 
   pub test-next : k < n → {r : Bool} → Tested (t .directed) (tail t k) (head t k) (cost t k) h r → r ≡ false → Testing t n (k + 1) h
-  test-next l w e = let q = w .still e in record { some = omega arith; still = up-to {Q = λ (j : ℕ). Still (t .directed) (tail t j) (head t j) (cost t j) h} (s .still) (q .0); small = up-to {Q = λ (j : ℕ). Small (cost t j)} (s .small) (q .1) }
+  test-next l w e = let q = w .still e in record { some = omega arith; still = up-to {Q = λ (j : ℕ). Still (t .directed) (tail t j) (head t j) (cost t j) h} (s .still) (q .0); small = up-to {Q = λ (j : ℕ). Cost32 (cost t j)} (s .small) (q .1) }
 
   pub test-stops : k < n → {r : Bool} → Tested (t .directed) (tail t k) (head t k) (cost t k) h r → r ≡ true → TestedAll t n h true
   test-stops l w e = record { improves = λ z. record { at = k; within = l; improves = w .improves e }; still = λ z. absurd (clash refl z) }
 
   pub test-ends : n ≤ k → TestedAll t n h false
-  test-ends l = let e : k ≡ n = omega (arith, s .some) in record { improves = λ z. absurd (clash z refl); still = λ z. (subst (λ (i : ℕ). StillTo t i h) e (s .still), subst (λ (i : ℕ). (j : ℕ) → j < i → Small (cost t j)) e (s .small)) }
+  test-ends l = let e : k ≡ n = omega (arith, s .some) in record { improves = λ z. absurd (clash z refl); still = λ z. (subst (λ (i : ℕ). StillTo t i h) e (s .still), subst (λ (i : ℕ). (j : ℕ) → j < i → Cost32 (cost t j)) e (s .small)) }
 
 -- before the rounds
 pub ask-shallow : {t : Table} {n p : ℕ} {h : List ℤ} → Ask t n p h → Shallow (length h) 0 h

@@ -1,24 +1,24 @@
 -- x + y - z as the machine computes it, where x is a cost or a total and y and z are potentials: it fits, and is that number.
 -- Assumes nothing.
 use mathlib.Core.Path.{_≡_, refl, sym, ap, _∙_, subst}
-use Prim.Native.Nat.{_+_, _≤_, _^_}
+use Prim.Native.Nat.{_^_}
 use native.Mathlib.Omega.{arith}
 use lib.IntN.{ℤ, negℤ, _+ℤ_, _-ℤ_}
 use mir.Syntax.{w64}
 use mir.Val.{SFits, toZ, ofZ}
 use mir.ValLaws.{toZ-ofZ}
-use Rattle.whole.specs.Zed.{_⊕_, _⊖_, P, N, zed, sum, neg}
-use Rattle.johnson.specs.Rounds.{Small, Deep}
+use Rattle.whole.specs.Zed.{_⊕_, _⊖_, zed, sum, neg, Within, Cost32}
+use Rattle.johnson.specs.Rounds.{Deep}
 
 -- a cost of 32 bits is near
-pub small-near : (c : ℤ) → Small c → P c + N c ≤ 2 ^ 60
+pub small-near : (c : ℤ) → Cost32 c → Within (2 ^ 60) c
 small-near c h = omega arith
 
 -- a number read back from its bits
 abbrev back : ℤ → ℤ
 back z = toZ w64 (ofZ w64 z)
 
-module _ (x : ℤ) {y z : ℤ} (fx : SFits w64 x) (fy : SFits w64 y) (fz : SFits w64 z) (bx : P x + N x ≤ 2 ^ 60) (dy : Deep (2 ^ 59) y) (dz : Deep (2 ^ 59) z) where
+module _ (x : ℤ) {y z : ℤ} (fx : SFits w64 x) (fy : SFits w64 y) (fz : SFits w64 z) (bx : Within (2 ^ 60) x) (dy : Deep (2 ^ 59) y) (dz : Deep (2 ^ 59) z) where
   sum-is : (back x +ℤ back y) ≡ x ⊕ y
   sum-is = λ i. toZ-ofZ w64 x fx i +ℤ toZ-ofZ w64 y fy i
 

@@ -14,12 +14,13 @@ use native.Mathlib.Decide.{ℕ-discrete}
 use lib.IntN.{ℤ, pos}
 use lib.Signed.{_≤ℤ_, _<ℤ_}
 use lib.ListN.{length}
-use Rattle.whole.specs.Zed.{_⊕_, P, N, zed, sum}
+use Rattle.whole.specs.Zed.{_⊕_, P, N, zed, sum, Within}
 use Rattle.walks.specs.Pigeon.{In}
 use Rattle.walks.specs.Walk.{Walk, stay, step, Negative}
 use Rattle.walks.proofs.Walk.{join, arc, arcs, few, bounded}
 use Rattle.walks.proofs.Cheap.{Simple, simple-or}
-use Rattle.johnson.specs.Rounds.{label, lowers, looked, Table, tail, head, cost, swept, rounds, Reached, StillTo, Small, Linked}
+use Rattle.walks.specs.Costs.{Costs32}
+use Rattle.johnson.specs.Rounds.{label, lowers, looked, Table, tail, head, cost, swept, rounds, Reached, StillTo, Linked}
 use Rattle.johnson.specs.Potentials.{Resting}
 use Rattle.johnson.proofs.Looks.{Came, lowers-below, link-long, link-falls, link-reaches, link-came}
 
@@ -192,7 +193,7 @@ module _ {Arc : ℕ → ℕ → ℤ → Type 0} (ps : List ℕ) (ends : (u v : �
           absurd (omega (arith, zed, lowers-below u v c (rounds t n r h) e, sum (label h (came u .0)) (q .s)))
 
   -- resting potentials that are totals of walks lie within the costs of a walk without repeats
-  pub settled-low : (h : List ℤ) → Resting Arc h → Came Arc h → ((u v : ℕ) (c : ℤ) → Arc u v c → Small c) → ((v : ℕ) → P (label h v) ≡ 0) → (v : ℕ) → N (label h v) ≤ (length ps - 1) * 2 ^ 31
+  pub settled-low : (h : List ℤ) → Resting Arc h → Came Arc h → Costs32 Arc → ((v : ℕ) → P (label h v) ≡ 0) → (v : ℕ) → N (label h v) ≤ (length ps - 1) * 2 ^ 31
   settled-low h resting came small high v = from (label h v) (high v) refl (came v .1)
     where
       from : {s : ℕ} (x : ℤ) → P x ≡ 0 → x ≡ label h v → Walk Arc s v x → N x ≤ (length ps - 1) * 2 ^ 31
@@ -204,6 +205,6 @@ module _ {Arc : ℕ → ℕ → ℤ → Type 0} (ps : List ℕ) (ends : (u v : �
           go (inr q) =
               let l : arcs (q .walk) < length ps = few ps (λ i j k b. ends i j k b .1) (ends s y c a .0) (q .walk) (q .nodup) in
               let k : arcs (q .walk) * 2 ^ 31 ≤ (length ps - 1) * 2 ^ 31 = mul-le-mul-right (2 ^ 31) (omega arith) in
-              let b : (P (q .s) ≤ arcs (q .walk) * 2 ^ 31 + N (q .s)) × (N (q .s) ≤ arcs (q .walk) * 2 ^ 31 + P (q .s)) = bounded (2 ^ 31) small (q .walk) in
+              let b : Within (arcs (q .walk) * 2 ^ 31) (q .s) = bounded (2 ^ 31) small (q .walk) in
               let cheap : q .s ≤ℤ x = q .cheap in
               omega (arith, zed)

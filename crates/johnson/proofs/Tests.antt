@@ -10,13 +10,14 @@ use native.Mathlib.Decide.{decLt}
 use lib.IntN.{ℤ, pos}
 use lib.Signed.{_≤ℤ_}
 use lib.ListN.{length, getD, take}
-use Rattle.whole.specs.Zed.{_⊕_, N, zed}
+use Rattle.whole.specs.Zed.{_⊕_, N, zed, Cost32}
 use Rattle.table.specs.Links.{Link, linkOf, zip3, joins, Arc}
 use Rattle.table.proofs.Laws.{zip-at, zip-long}
 use Rattle.table.proofs.Joins.{joined, joins-of}
 use Rattle.table.proofs.Arcs.{arc-at, arc-out}
 use Rattle.walks.specs.Walk.{stay, Negative}
-use Rattle.johnson.specs.Rounds.{label, lowers, Table, tail, head, cost, rounds, StillTo, Small, Shallow, Linked, Improves, forth, back, RoundsDone, OpenTo, TestedAll}
+use Rattle.walks.specs.Costs.{Costs32}
+use Rattle.johnson.specs.Rounds.{label, lowers, Table, tail, head, cost, rounds, StillTo, Shallow, Linked, Improves, forth, back, RoundsDone, OpenTo, TestedAll}
 use Rattle.johnson.specs.Potentials.{ArcsOf, Resting, Ask, Answered}
 use Rattle.johnson.proofs.Looks.{Came, lowers-below}
 use Rattle.johnson.proofs.Sweeps.{Placed, Arcs, still-resting, each-cost, rounds-came, open-negative, settled-low}
@@ -85,7 +86,7 @@ module _ {t : Table} {n p : ℕ} {h h′ : List ℤ} (ask : Ask t n p h) (done :
       go (back d e) = open-arc _ _ _ (arcs .return (o .at) (o .within) d) e
 
   -- it found none
-  pub answer-no : StillTo t n h′ → ((k : ℕ) → k < n → Small (cost t k)) → Answered t n p h h′ false
+  pub answer-no : StillTo t n h′ → ((k : ℕ) → k < n → Cost32 (cost t k)) → Answered t n p h h′ false
   answer-no still small = record {
     long = done .shallow .long;
     yes = λ e. absurd (let z : _≡_ {A = ℕ} 0 1 = cc in omega arith);
@@ -95,8 +96,8 @@ module _ {t : Table} {n p : ℕ} {h h′ : List ℤ} (ask : Ask t n p h) (done :
       resting : Resting (ArcsOf t n) h′
       resting = still-resting arcs h′ still
 
-      costs : (u v : ℕ) (c : ℤ) → ArcsOf t n u v c → Small c
-      costs = each-cost arcs (λ (z : ℤ). Small z) small
+      costs : Costs32 (ArcsOf t n)
+      costs = each-cost arcs Cost32 small
 
       came : Came (ArcsOf t n) h′
       came = subst (Came (ArcsOf t n)) (sym (done .leaves)) (rounds-came arcs (ask .sound) h refl (λ x. (x, stay (ask .zeros x))) (done .made))

@@ -7,10 +7,10 @@ use Prim.Native.Nat.{ℕ, _+_, _*_, _≤_, _<_, _^_}
 use lib.IntN.{ℤ, pos}
 use lib.Signed.{ltZ, _≤ℤ_}
 use lib.ListN.{length, getD}
-use Rattle.whole.specs.Zed.{P, N}
+use Rattle.whole.specs.Zed.{P, Within}
 use Rattle.clean.specs.None.{noneI64}
 use Rattle.table.specs.Links.{present}
-use Rattle.walks.specs.Walk.{Negative, Entry}
+use Rattle.walks.specs.Walk.{Negative, Total}
 use Rattle.walks.specs.Shift.{Shifted}
 use Rattle.net.specs.Net.{Net, ArcOf, wholeNet, insideNet, sizeOf, rising, width}
 use Rattle.rows.specs.Rows.{Lists}
@@ -32,7 +32,7 @@ pub record Even (m : ℕ) (nb : Lists ℤ) : Type 0 where
 
 -- the distances found from s
 abbrev pub Found : ℕ → ℕ → Lists ℤ → List ℤ → Type 0
-Found m s nb ds = (v : ℕ) → v < m → Entry (RowArc m nb) s v (getD ds v (pos 0))
+Found m s nb ds = (v : ℕ) → v < m → Total (RowArc m nb) s v (getD ds v (pos 0))
 
 -- ---- one row of the matrix
 -- the place of an index among the nodes: how many before it the map has
@@ -41,7 +41,7 @@ rank m marks u = length (rising (present m marks) u)
 
 -- a distance that may be shifted: none, or not far from 0
 abbrev pub Moderate : ℤ → Type 0
-Moderate d = ltZ noneI64 d ≡ true → P d + N d ≤ 2 ^ 60
+Moderate d = ltZ noneI64 d ≡ true → Within (2 ^ 60) d
 
 -- what a row from s asks, which starts at a place of the matrix
 pub record CanShow (m at s : ℕ) (marks : List ℕ) (h ds matrix : List ℤ) : Type 0 where
@@ -72,10 +72,10 @@ pub record CanFill (m p : ℕ) (marks : List ℕ) (nb : Lists ℤ) (h matrix : L
   pub deep : (v : ℕ) → Deep (2 ^ 59) (label h v)
   pub room : p * p ≤ length matrix
 
--- an entry: what a search from u finds for v, shifted back
+-- an entry: the total that a search from u finds for v, shifted back
 pub record Shown (m : ℕ) (nb : Lists ℤ) (h : List ℤ) (u v : ℕ) (x : ℤ) : Type 0 where
   pub found : ℤ
-  pub entry : Entry (RowArc m nb) u v found
+  pub total : Total (RowArc m nb) u v found
   pub is : x ≡ shiftedBack h u v found
 
 -- the rows of the present ones of the first k indices; what is past the square is as it was

@@ -11,7 +11,8 @@ use Rattle.whole.specs.Zed.{_⊕_, P, N}
 use Rattle.table.specs.Links.{Arc, links}
 use Rattle.walks.specs.Pigeon.{In}
 use Rattle.walks.specs.Walk.{Negative}
-use Rattle.johnson.specs.Rounds.{label, Table, Small, Linked}
+use Rattle.walks.specs.Costs.{Costs32}
+use Rattle.johnson.specs.Rounds.{label, Table, Linked}
 
 -- the arcs of the first n links
 abbrev pub ArcsOf : Table → ℕ → ℕ → ℕ → ℤ → Type 0
@@ -35,7 +36,7 @@ pub record Potentials (Arc : ℕ → ℕ → ℤ → Type 0) (p : ℕ) (h : List
   pub resting : Resting Arc h
   pub high : (v : ℕ) → P (label h v) ≡ 0
   pub low : (v : ℕ) → N (label h v) ≤ (p - 1) * 2 ^ 31
-  pub small : (u v : ℕ) (c : ℤ) → Arc u v c → Small c
+  pub small : Costs32 Arc
 
 -- the answer: is some closed walk below zero? If not, the potentials hold
 pub record Answered (t : Table) (n p : ℕ) (h h′ : List ℤ) (negative : Bool) : Type 0 where

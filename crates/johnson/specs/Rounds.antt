@@ -7,7 +7,7 @@ use Prim.Native.Nat.{ℕ, zero, suc, _+_, _-_, _*_, _≤_, _<_, _^_}
 use lib.IntN.{ℤ, pos}
 use lib.Signed.{ltZ, _≤ℤ_}
 use lib.ListN.{length, getD, set}
-use Rattle.whole.specs.Zed.{_⊕_, P, N}
+use Rattle.whole.specs.Zed.{_⊕_, P, N, Cost32}
 
 -- the potential of v
 abbrev pub label : List ℤ → ℕ → ℤ
@@ -68,10 +68,6 @@ Still d u v c h = Reached d u v c h h
 abbrev pub StillTo : Table → ℕ → List ℤ → Type 0
 StillTo t k h = (j : ℕ) → j < k → Still (t .directed) (tail t j) (head t j) (cost t j) h
 
--- a cost of 32 bits
-abbrev pub Small : ℤ → Type 0
-Small c = P c + N c ≤ 2 ^ 31
-
 -- potentials of m indices after at most k looks at an arc: none is above 0, and none has fallen by more than k greatest costs
 pub record Shallow (m k : ℕ) (h : List ℤ) : Type 0 where
   pub long : length h ≡ m
@@ -95,7 +91,7 @@ pub record Deep (b : ℕ) (z : ℤ) : Type 0 where
 -- a look at a link: what it leaves, and whether a potential fell; its cost is one of 32 bits
 pub record Looked (d : Bool) (u v : ℕ) (c : ℤ) (h h′ : List ℤ) (fell : Bool) : Type 0 where
   pub leaves : h′ ≡ looked d u v c h
-  pub small : Small c
+  pub small : Cost32 c
   pub quiet : fell ≡ false → (h′ ≡ h) × Still d u v c h
 
 -- an arc of the link lowers a potential, or none does
@@ -106,7 +102,7 @@ pub data Improves (d : Bool) (u v : ℕ) (c : ℤ) (h : List ℤ) : Type 0 where
 -- the test of a link
 pub record Tested (d : Bool) (u v : ℕ) (c : ℤ) (h : List ℤ) (answer : Bool) : Type 0 where
   pub improves : answer ≡ true → Improves d u v c h
-  pub still : answer ≡ false → Still d u v c h × Small c
+  pub still : answer ≡ false → Still d u v c h × Cost32 c
 
 -- a round over n links, at most 8192, so of at most 16384 looks
 pub record Swept (t : Table) (n : ℕ) (h h′ : List ℤ) (fell : Bool) : Type 0 where
@@ -131,4 +127,4 @@ pub record OpenTo (t : Table) (k : ℕ) (h : List ℤ) : Type 0 where
 -- the test of the first n links
 pub record TestedAll (t : Table) (n : ℕ) (h : List ℤ) (answer : Bool) : Type 0 where
   pub improves : answer ≡ true → OpenTo t n h
-  pub still : answer ≡ false → StillTo t n h × ((k : ℕ) → k < n → Small (cost t k))
+  pub still : answer ≡ false → StillTo t n h × ((k : ℕ) → k < n → Cost32 (cost t k))

@@ -7,10 +7,10 @@ use Prim.Native.Nat.{ℕ, _+_, _≤_, _<_, _^_}
 use lib.IntN.{ℤ, pos}
 use lib.Signed.{ltZ}
 use lib.ListN.{length, getD}
-use Rattle.whole.specs.Zed.{_⊕_, _⊖_}
+use Rattle.whole.specs.Zed.{_⊕_, _⊖_, Cost32}
 use Rattle.clean.specs.None.{noneI64}
 use Rattle.rows.specs.Rows.{Lists, listsOf}
-use Rattle.johnson.specs.Rounds.{label, Small, Deep}
+use Rattle.johnson.specs.Rounds.{label, Deep}
 
 -- a shifted cost
 abbrev pub shiftedCost : List ℤ → ℕ → ℕ → ℤ → ℤ
@@ -32,7 +32,7 @@ pub record Listed (m u : ℕ) (nb : Lists ℤ) (h : List ℤ) : Type 0 where
   pub roomH : start nb m ≤ length (nb .heads)
   pub roomW : start nb m ≤ length (nb .weights)
   pub inside : (j : ℕ) → j < start nb m → getD (nb .heads) j 0 < m
-  pub small : (j : ℕ) → start nb u ≤ j → j < start nb m → Small (getD (nb .weights) j (pos 0))
+  pub small : (j : ℕ) → start nb u ≤ j → j < start nb m → Cost32 (getD (nb .weights) j (pos 0))
   pub long : length h ≡ m
   pub deep : (v : ℕ) → Deep (2 ^ 59) (label h v)
 

@@ -4,8 +4,8 @@ ghost use mathlib.Core.Path.{_≡_};
 ghost use Prim.Native.Nat.{ℕ, _+_, _*_, _≤_, _<_, _^_};
 ghost use lib.IntN.{pos};
 ghost use lib.ListN.{length, getD, set};
-ghost use Rattle.whole.specs.Zed.{_⊕_};
-ghost use Rattle.johnson.specs.Rounds.{label, lowers, lowered, tableOf, Small, Shallow, Linked, Deep, Looked, Swept, Tested, RoundsDone, TestedAll};
+ghost use Rattle.whole.specs.Zed.{_⊕_, Cost32};
+ghost use Rattle.johnson.specs.Rounds.{label, lowers, lowered, tableOf, Shallow, Linked, Deep, Looked, Swept, Tested, RoundsDone, TestedAll};
 ghost use Rattle.johnson.specs.Potentials.{Ask, Answered};
 ghost use Rattle.rows.specs.Rows.{listsOf};
 ghost use Rattle.net.specs.Net.{netOf};
@@ -18,7 +18,7 @@ ghost use Rattle.johnson.specs.Parts.{rank, Moderate, CanShow, RowShown,
 // The potential of u and the cost at k, added.
 fn sum_at(heights: &[i64], costs: &[i32], k: usize, u: usize) -> i64
     requires { ⌜ (k < length (now costs)) × (u < length (now heights)) × Deep (2 ^ 60) (label (now heights) u) ⌝ }
-    ensures { λ r. ⌜ (r ≡ label (now (heights .entry)) u ⊕ getD (now (costs .entry)) k (pos 0)) × Small (getD (now (costs .entry)) k (pos 0)) ⌝ }
+    ensures { λ r. ⌜ (r ≡ label (now (heights .entry)) u ⊕ getD (now (costs .entry)) k (pos 0)) × Cost32 (getD (now (costs .entry)) k (pos 0)) ⌝ }
 {
     let d = heights[u];
     d + costs[k] as i64
@@ -27,7 +27,7 @@ fn sum_at(heights: &[i64], costs: &[i32], k: usize, u: usize) -> i64
 // Would the arc from u to v, of the cost at k, lower the potential of v?
 fn improves(heights: &[i64], costs: &[i32], k: usize, u: usize, v: usize) -> bool
     requires { ⌜ (k < length (now costs)) × (u < length (now heights)) × (v < length (now heights)) × Deep (2 ^ 60) (label (now heights) u) ⌝ }
-    ensures { λ r. ⌜ (r ≡ lowers u v (getD (now (costs .entry)) k (pos 0)) (now (heights .entry))) × Small (getD (now (costs .entry)) k (pos 0)) ⌝ }
+    ensures { λ r. ⌜ (r ≡ lowers u v (getD (now (costs .entry)) k (pos 0)) (now (heights .entry))) × Cost32 (getD (now (costs .entry)) k (pos 0)) ⌝ }
 {
     let n = sum_at(heights, costs, k, u);
     whole::lower(n, heights[v])
@@ -36,7 +36,7 @@ fn improves(heights: &[i64], costs: &[i32], k: usize, u: usize, v: usize) -> boo
 // A look at that arc: the potential of v falls, or stays.
 fn relax(heights: &mut [i64], costs: &[i32], k: usize, u: usize, v: usize) -> bool
     requires { ⌜ (k < length (now costs)) × (u < length (now heights)) × (v < length (now heights)) × Deep (2 ^ 60) (label (now heights) u) ⌝ }
-    ensures { λ r. ⌜ (r ≡ lowers u v (getD (now (costs .entry)) k (pos 0)) (now (heights .entry))) × Small (getD (now (costs .entry)) k (pos 0)) × (now (heights .exit) ≡ lowered u v (getD (now (costs .entry)) k (pos 0)) (now (heights .entry))) ⌝ }
+    ensures { λ r. ⌜ (r ≡ lowers u v (getD (now (costs .entry)) k (pos 0)) (now (heights .entry))) × Cost32 (getD (now (costs .entry)) k (pos 0)) × (now (heights .exit) ≡ lowered u v (getD (now (costs .entry)) k (pos 0)) (now (heights .entry))) ⌝ }
 {
     let n = sum_at(heights, costs, k, u);
     if !whole::lower(n, heights[v]) {
@@ -181,7 +181,7 @@ fn potentials(
 
 // The weight at i of an arc from u to v is shifted by the potentials.
 fn shift_at(heights: &[i64], weights: &mut [i64], i: usize, u: usize, v: usize)
-    requires { ⌜ (i < length (now weights)) × (u < length (now heights)) × (v < length (now heights)) × Small (getD (now weights) i (pos 0)) × Deep (2 ^ 59) (label (now heights) u) × Deep (2 ^ 59) (label (now heights) v) ⌝ }
+    requires { ⌜ (i < length (now weights)) × (u < length (now heights)) × (v < length (now heights)) × Cost32 (getD (now weights) i (pos 0)) × Deep (2 ^ 59) (label (now heights) u) × Deep (2 ^ 59) (label (now heights) v) ⌝ }
     ensures { λ r. ⌜ now (weights .exit) ≡ set (now (weights .entry)) i (shiftedCost (now (heights .entry)) u v (getD (now (weights .entry)) i (pos 0))) ⌝ }
 {
     let n = weights[i] + heights[u];

@@ -77,8 +77,8 @@ closed-up {Arc} {x} {t} f w = go (ltZ t (pos 0)) refl
 -- so an index is at 0 from itself
 entry-zero : {Arc : ℕ → ℕ → ℤ → Type 0} {u : ℕ} {d : ℤ} → (Negative Arc → ⊥) → Entry Arc u u d → d ≡ pos 0
 entry-zero {d} f (inl l) =
-    let h : pos 0 ≤ℤ d = closed-up f (l .walk) in
-    let k : d ≤ℤ pos 0 = l .least (pos 0) (stay refl) in
+    let h : pos 0 ≤ℤ d = closed-up f (l .0 .walk) in
+    let k : d ≤ℤ pos 0 = l .0 .least (pos 0) (stay refl) in
     omega (arith, zed)
 entry-zero f (inr e) = absurd (e .1 (pos 0) (stay refl))
 

@@ -1,23 +1,22 @@
--- The totals of walks over a map of integers: no walk leads to an absent index, a least total lies within 1,024 times 2^31, and totals go by the arcs alone.
+-- The totals of walks over a map of integers: no walk leads to an absent index, a least total lies in -2^41 ..= 2^41, and totals go by the arcs alone.
 -- Assumes nothing.
 use mathlib.Core.Path.{_≡_, subst}
 use mathlib.Core.Bool.{true, false}
 use mathlib.Core.List.{List}
 use mathlib.Core.Logic.{inl, inr}
-use Prim.Native.Nat.{ℕ, _+_, _*_, _≤_, _<_, _^_}
+use Prim.Native.Nat.{ℕ, _*_, _≤_, _^_}
 use native.Mathlib.Omega.{arith}
 use lib.IntN.{ℤ}
-use lib.ListN.{length}
-use Rattle.whole.specs.Zed.{P, N}
+use Rattle.whole.specs.Zed.{Within}
 use Rattle.whole.proofs.Cases.{clash}
 use Rattle.clean.specs.Fill.{Settled}
 use Rattle.clean.specs.None.{noneI64}
 use Rattle.clean.proofs.Filled.{settled-over}
+use Rattle.walks.specs.Costs.{Costs32}
 use Rattle.walks.specs.Walk.{Walk, stay, step, Least, NoNeg, Entry}
 use Rattle.walks.proofs.Cheap.{least-within}
 use Rattle.walks.proofs.Over.{entry-over}
-use Rattle.net.specs.Net.{Net, ArcOf, insideNet, has, nodesOf, SameNet}
-use Rattle.net.proofs.Bounds.{Whole, width-small}
+use Rattle.net.specs.Net.{Net, ArcOf, insideNet, has, nodesOf, width, SameNet}
 use Rattle.net.proofs.Nodes.{present-in}
 use Rattle.net.proofs.Same.{arc-has}
 
@@ -25,21 +24,19 @@ module _ (g : Net ℤ) (s v : ℕ) (d : ℤ) (inside : insideNet g ≡ true) (so
   -- an absent index has no walk to it
   pub absent-none : has g v ≡ false → Entry (ArcOf g) s v d → d ≡ noneI64
   absent-none f (inr p) = p .0
-  absent-none f (inl l) = absurd (clash (end source (l .walk)) f)
+  absent-none f (inl l) = absurd (clash (end source (l .0 .walk)) f)
     where
       end : {u w : ℕ} {t : ℤ} → has g u ≡ true → Walk (ArcOf g) u w t → has g w ≡ true
       end k (stay e) = k
       end k (step {u} {v} {c} a w e) = end (arc-has g inside u v c a .1) w
 
-  -- the costs are those of 32 bits, and a least total has fewer than 1,024 arcs
-  pub total-within : Whole g → ((x y : ℕ) (c : ℤ) → ArcOf g x y c → P c + N c ≤ 2 ^ 31) → NoNeg (ArcOf g) s → Least (ArcOf g) s v d → (P d < 1024 * 2 ^ 31 + N d) × (N d < 1024 * 2 ^ 31 + P d)
-  total-within whole small none l =
+  -- a least total has fewer than 1,024 arcs, each of a cost in -2^31 ..= 2^31
+  pub total-within : width g ≤ 1024 → Costs32 (ArcOf g) → NoNeg (ArcOf g) s → Least (ArcOf g) s v d → Within (2 ^ 41) d
+  total-within few small none l =
       let w = least-within (nodesOf g) (2 ^ 31) (λ x y c a. present-in g y (arc-has g inside x y c a .1)) (present-in g s source) small none l in
       let n : ℕ = w .0 in
-      let few : n < length (nodesOf g) = w .1 in
-      let up : P d ≤ n * 2 ^ 31 + N d = w .2 .0 in
-      let down : N d ≤ n * 2 ^ 31 + P d = w .2 .1 in
-      (omega (arith, width-small whole), omega (arith, width-small whole))
+      let k : Within (n * 2 ^ 31) d = w .2 in
+      omega (arith, w .1)
 
 -- maps that no question can tell apart have the same arcs, and the same entries in a buffer
 module _ {g g′ : Net ℤ} (same : SameNet g g′) where

@@ -3,17 +3,17 @@
 use mathlib.Core.Path.{_≡_, refl, sym, ap, _∙_, subst}
 use mathlib.Core.Bool.{Bool, true, false, not, true≢false}
 use mathlib.Core.Logic.{inl, inr}
-use Prim.Native.Nat.{ℕ, _+_, _-_, _≤_, _<_, _^_}
+use Prim.Native.Nat.{ℕ, _+_, _-_, _<_, _^_}
 use native.Mathlib.Omega.{arith}
 use native.Mathlib.Decide.{ℕ-discrete}
 use borrow.Author.Tests.{eqb-true, eqb-false}
 use lib.Dec.{eqb}
-use lib.IntN.{ℤ, pos, negsuc, negℤ}
+use lib.IntN.{ℤ, pos, negsuc}
 use lib.Signed.{ltZ, _≤ℤ_, _<ℤ_}
 use mir.Syntax.{w32, w64}
 use mir.Val.{SFits, toZ, ofZ}
 use mir.ValLaws.{toZ-ofZ}
-use Rattle.whole.specs.Zed.{_⊕_, P, N, zed, neg, Within, fits-in, widen}
+use Rattle.whole.specs.Zed.{_⊕_, zed, Within, within-of, fits-in, widen}
 use Rattle.whole.proofs.Cases.{not-t, not-f}
 use Rattle.whole.proofs.Signed.{look-lt, look-ge, near, sum-is}
 use Rattle.clean.specs.None.{noneI64}
@@ -48,32 +48,25 @@ zero-not n e = n (ap (ofZ w64) e)
 
 -- ---- an entry z that is not none against the range: below it
 pub range-below : {z : ℤ} → (z ≡ noneI64 → ⊥) → z <ℤ negsuc (2 ^ 42 - 1) → InRange z → ⊥
-unfolding Within
 range-below n h (inl p) = n p
-range-below {z} n h (inr w) = let l : negℤ (pos (2 ^ 42)) ≤ℤ z = w .0 in omega (arith, zed, neg (pos (2 ^ 42)))
+range-below {z} n h (inr w) = omega (arith, zed)
 
 -- not below it: the code tests whether z, which it reads as x, is above
 pub range-told : {z x : ℤ} {r : Bool} → (z ≡ noneI64 → ⊥) → negsuc (2 ^ 42 - 1) ≤ℤ z → x ≡ z → r ≡ ltZ (pos (2 ^ 42)) x → Decides (InRange z) (not r)
-unfolding Within
 range-told {z} {x} {r} n h q e =
     record {
-      holds = λ t. let k : z ≤ℤ pos (2 ^ 42) = look-ge refl q e (not-t r t) in inr (omega (arith, zed, neg (pos (2 ^ 42))), k);
+      holds = λ t. let k : z ≤ℤ pos (2 ^ 42) = look-ge refl q e (not-t r t) in inr (within-of (2 ^ 42) z (omega (arith, zed)) (omega (arith, zed)));
       fails = λ t. above (look-lt refl q e (not-f r t));
     }
   where
     above : pos (2 ^ 42) <ℤ z → InRange z → ⊥
     above k (inl p) = n p
-    above k (inr w) = let l : z ≤ℤ pos (2 ^ 42) = w .1 in omega (arith, zed)
+    above k (inr w) = omega (arith, zed)
 
 -- ---- the sum of a distance and a cost: each is small enough to be added
-within-near : (z : ℤ) → negℤ (pos (2 ^ 42)) ≤ℤ z → z ≤ℤ pos (2 ^ 42) → P z + N z ≤ 2 ^ 60
-within-near (pos n) l h = omega (arith, zed)
-within-near (negsuc n) l h = omega (arith, zed, neg (pos (2 ^ 42)))
-
-range-near : {z : ℤ} → (z ≡ noneI64 → ⊥) → InRange z → P z + N z ≤ 2 ^ 60
-unfolding Within
+range-near : {z : ℤ} → (z ≡ noneI64 → ⊥) → InRange z → Within (2 ^ 60) z
 range-near n (inl p) = absurd (n p)
-range-near {z} n (inr w) = within-near z (w .0) (w .1)
+range-near n (inr w) = omega arith
 
 -- d is an entry in the range, c a cost, and w the cost as an i64
 module _ {d c w : ℤ} (f : SFits w64 d) (k : SFits w32 c) (e : w ≡ toZ w32 (ofZ w32 c)) where
@@ -84,7 +77,7 @@ module _ {d c w : ℤ} (f : SFits w64 d) (k : SFits w32 c) (e : w ≡ toZ w32 (o
   fits = subst (SFits w64) (sym wide) (widen k)
 
   -- what adding them asks
-  pub next-near : (d ≡ noneI64 → ⊥) → InRange d → (P (toZ w64 (ofZ w64 d)) + N (toZ w64 (ofZ w64 d)) ≤ 2 ^ 60) × (P (toZ w64 (ofZ w64 w)) + N (toZ w64 (ofZ w64 w)) ≤ 2 ^ 60)
+  pub next-near : (d ≡ noneI64 → ⊥) → InRange d → Within (2 ^ 60) (toZ w64 (ofZ w64 d)) × Within (2 ^ 60) (toZ w64 (ofZ w64 w))
   next-near n r = near f fits (range-near n r) (rw wide (omega (arith, fits-in w32 c k)))
 
   -- and what is read back of their sum s

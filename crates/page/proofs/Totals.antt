@@ -1,24 +1,21 @@
 -- A page of least totals is right.
--- The argument: with no negative closed walk in reach, the source's least total is 0, and a least total has fewer than 1,024 arcs, so it is in the range.
+-- The argument: with no negative closed walk in reach, the source's least total is 0, and an entry that is one lies in its range.
 -- A least total and an arc make a walk, so no arc leads to none or to more. The last arc of a least walk meets its head: what comes before it is least too.
 -- Assumes nothing.
 use mathlib.Core.Path.{_≡_, refl, sym, subst}
 use mathlib.Core.Bool.{true}
 use mathlib.Core.List.{List}
 use mathlib.Core.Logic.{_⊎_, inl, inr, ⊎-elim}
-use Prim.Native.Nat.{ℕ, _+_, _*_, _≤_, _<_, _^_}
+use Prim.Native.Nat.{ℕ, _<_, _^_}
 use native.Mathlib.Omega.{arith}
-use lib.IntN.{ℤ, pos, negℤ}
+use lib.IntN.{ℤ, pos}
 use lib.Signed.{_≤ℤ_}
-use Rattle.whole.specs.Zed.{_⊕_, P, N, zed, sum, neg, Within}
-use Rattle.whole.proofs.Cases.{and-left}
-use Rattle.table.proofs.Laws as table
+use Rattle.whole.specs.Zed.{_⊕_, zed, sum, Within}
 use Rattle.walks.specs.Walk.{Walk, stay, step, Least, NoNeg, Entry}
 use Rattle.walks.proofs.Walk.{join, arc}
-use Rattle.walks.proofs.Cheap.{least-within}
-use Rattle.net.specs.Net.{Net, ArcOf, nodesOf, width, wholeNet, insideNet, has}
-use Rattle.net.proofs.Nodes.{has-below, present-in, width-most}
-use Rattle.net.proofs.Same.{arc-has, arc-below}
+use Rattle.net.specs.Net.{Net, ArcOf, insideNet, has}
+use Rattle.net.proofs.Nodes.{has-below}
+use Rattle.net.proofs.Same.{arc-below}
 use Rattle.page.specs.Promise.{entry, Known, Meets, Right, enough, Answer, answerOf, Promise, good}
 use Rattle.page.proofs.Settles.{promise-one}
 
@@ -42,31 +39,22 @@ last {A} {d = r} (step {u = x} {v = y} {w = z} {c} {t} a w e) = go (last w)
         let f : t ≡ k .t ⊕ k .c = k .total in
         inr (record { u = k .u; c = k .c; t = c ⊕ k .t; walk = step a (k .walk) refl; arc = k .arc; total = omega (arith, zed, sum c t, sum (k .t) (k .c), sum c (k .t), sum (c ⊕ k .t) (k .c)) })
 
-module _ (g : Net ℤ) (s : ℕ) (page : List ℤ) (whole : wholeNet g ≡ true) (inside : insideNet g ≡ true) (source : has g s ≡ true)
-    (small : (x y : ℕ) (c : ℤ) → ArcOf g x y c → P c + N c ≤ 2 ^ 31) (none : NoNeg (ArcOf g) s) (each : (v : ℕ) → v < g .bound → Entry (ArcOf g) s v (entry page v)) where
-  -- a least total is in the range
-  within : {v : ℕ} {d : ℤ} → Least (ArcOf g) s v d → Within (2 ^ 42) d
-  unfolding Within
-  within {v} {d} l =
-      let w = least-within (nodesOf g) (2 ^ 31) (λ x y c a. present-in g y (arc-has g inside x y c a .1)) (present-in g s source) small none l in
-      let n : ℕ = w .0 in
-      let few : n < width g = w .1 in
-      let a : P d ≤ n * 2 ^ 31 + N d = w .2 .0 in
-      let b : N d ≤ n * 2 ^ 31 + P d = w .2 .1 in
-      let m : n < 1024 = omega (arith, width-most g, table.whole (g .bound) (g .count) (g .room) (g .marks) whole .indices) in
-      omega (arith, zed, neg (pos (2 ^ 42)))
+module _ (g : Net ℤ) (s : ℕ) (page : List ℤ) (inside : insideNet g ≡ true) (source : has g s ≡ true) (none : NoNeg (ArcOf g) s)
+    (each : (v : ℕ) → v < g .bound → Entry (ArcOf g) s v (entry page v)) where
+  -- a least total that lies in its range
+  abbrev Found : ℕ → Type 0
+  Found v = Least (ArcOf g) s v (entry page v) × Within (2 ^ 41) (entry page v)
 
-  -- so it is not none
-  known : {v : ℕ} → Least (ArcOf g) s v (entry page v) → Known page v
-  unfolding Within
-  known {v} l q = let w : negℤ (pos (2 ^ 42)) ≤ℤ entry page v = within l .0 in omega (arith, zed, neg (pos (2 ^ 42)))
+  -- is not none
+  known : {v : ℕ} → Found v → Known page v
+  known {v} l q = let w = l .1 in omega (arith, zed)
 
   -- an index that a walk reaches has its least total
-  reach : (v : ℕ) → v < g .bound → (t : ℤ) → Walk (ArcOf g) s v t → Least (ArcOf g) s v (entry page v)
+  reach : (v : ℕ) → v < g .bound → (t : ℤ) → Walk (ArcOf g) s v t → Found v
   reach v h t w = ⊎-elim (λ l. l) (λ p. absurd (p .1 t w)) (each v h)
 
   -- and so has one with a distance
-  told : (v : ℕ) → v < g .bound → Known page v → Least (ArcOf g) s v (entry page v)
+  told : (v : ℕ) → v < g .bound → Known page v → Found v
   told v h k = ⊎-elim (λ l. l) (λ p. absurd (k (p .0))) (each v h)
 
   -- the last arc of a least walk meets its head
@@ -77,8 +65,8 @@ module _ (g : Net ℤ) (s : ℕ) (page : List ℤ) (whole : wholeNet g ≡ true)
       go (inl q) = absurd (n (sym (q .0)))
       go (inr k) =
           let m = reach (k .u) (arc-below g inside (k .u) v (k .c) (k .arc) .0) (k .t) (k .walk) in
-          let p : entry page (k .u) ≤ℤ k .t = m .least (k .t) (k .walk) in
-          let q : entry page v ≤ℤ entry page (k .u) ⊕ k .c = l .least (entry page (k .u) ⊕ k .c) (join (m .walk) (arc (k .arc)) refl) in
+          let p : entry page (k .u) ≤ℤ k .t = m .0 .least (k .t) (k .walk) in
+          let q : entry page v ≤ℤ entry page (k .u) ⊕ k .c = l .least (entry page (k .u) ⊕ k .c) (join (m .0 .walk) (arc (k .arc)) refl) in
           let e : entry page v ≡ k .t ⊕ k .c = k .total in
           record { u = k .u; c = k .c; arc = k .arc; known = known m; exact = omega (arith, zed, sum (entry page (k .u)) (k .c), sum (k .t) (k .c)) }
 
@@ -88,13 +76,13 @@ module _ (g : Net ℤ) (s : ℕ) (page : List ℤ) (whole : wholeNet g ≡ true)
       record {
         starts = starts;
         holds = holds;
-        reached = λ v h n k. meets v h n (told v h k);
-        ranged = λ v h. ⊎-elim (λ l. inr (within l)) (λ p. inl (p .0)) (each v h);
+        reached = λ v h n k. meets v h n (told v h k .0);
+        ranged = λ v h. ⊎-elim (λ l. inr (omega (arith, l .1))) (λ p. inl (p .0)) (each v h);
       }
     where
       starts : entry page s ≡ pos 0
       starts =
-          let l = reach s (has-below g s source) (pos 0) (stay refl) in
+          let l = reach s (has-below g s source) (pos 0) (stay refl) .0 in
           let p : entry page s ≤ℤ pos 0 = l .least (pos 0) (stay refl) in
           let q : pos 0 ≤ℤ entry page s = none s (pos 0) (entry page s) (stay refl) (l .walk) in
           omega (arith, zed)
@@ -102,12 +90,12 @@ module _ (g : Net ℤ) (s : ℕ) (page : List ℤ) (whole : wholeNet g ≡ true)
       holds : (u v : ℕ) (c : ℤ) → ArcOf g u v c → Known page u → Known page v × (entry page v ≤ℤ entry page u ⊕ c)
       holds u v c a k =
           let b = arc-below g inside u v c a in
-          let l = told u (b .0) k in
+          let l = told u (b .0) k .0 in
           let w : Walk (ArcOf g) s v (entry page u ⊕ c) = join (l .walk) (arc a) refl in
           let m = reach v (b .1) (entry page u ⊕ c) w in
-          (known m, m .least (entry page u ⊕ c) w)
+          (known m, m .0 .least (entry page u ⊕ c) w)
 
 -- so the answer to such a page is yes
-pub totals-yes : (g : Net ℤ) (s : ℕ) (page : List ℤ) {a : Answer} → enough g page ≡ true → insideNet g ≡ true → has g s ≡ true → ((x y : ℕ) (c : ℤ) → ArcOf g x y c → P c + N c ≤ 2 ^ 31) → NoNeg (ArcOf g) s
+pub totals-yes : (g : Net ℤ) (s : ℕ) (page : List ℤ) {a : Answer} → enough g page ≡ true → insideNet g ≡ true → has g s ≡ true → NoNeg (ArcOf g) s
     → ((v : ℕ) → v < g .bound → Entry (ArcOf g) s v (entry page v)) → Promise g s page a → a ≡ answerOf 0 true
-totals-yes g s page p i h small none each a = promise-one a (good refl p i h (totals-right g s page (and-left (wholeNet g) _ p) i h small none each))
+totals-yes g s page p i h none each a = promise-one a (good refl p i h (totals-right g s page i h none each))

@@ -20,7 +20,6 @@ use Rattle.bellman_ford.specs.Promise as bellman
 use Rattle.bellman_ford.proofs.Refusals.{enough-passed}
 use Rattle.page.specs.Promise as page
 use Rattle.page.proofs.Totals.{totals-yes}
-use Rattle.promises.specs.Distance.{Costs32}
 
 -- ---- the two questions on all pairs, with the same matrix lent
 pub matrices-agree : {g : Net ℤ} {m m₁ m₂ : List ℤ} {r r′ : List ℕ} {s s′ : johnson.Scratch} {no no′ : ℕ} → floyd.Promise g m r m₁ r′ no → johnson.Promise g m s m₂ s′ no′ → (no ≡ 1 → ⊥) → (no′ ≡ 1 → ⊥) → (no ≡ no′) × (m₁ ≡ m₂)
@@ -33,9 +32,9 @@ paged g b e p i q =
     let k = enough-passed g b p i in
     rw (k .whole, le-leb (g .bound) (length (e .dist)) (omega (arith, k .dist, q)))
 
-pub bellman-ford-page-yes : {g : Net ℤ} {s : ℕ} {b e : bellman.Buffers} {no : ℕ} {a : page.Answer} → Costs32 g → has g s ≡ true → bellman.Promise g s b e no → no ≡ 0 → page.Promise g s (e .dist) a → a ≡ page.answerOf 0 true
-bellman-ford-page-yes small source (bellman.short n p q) z r = other 1 0 n z (λ y. omega arith)
-bellman-ford-page-yes small source (bellman.outside n p i q) z r = other 2 0 n z (λ y. omega arith)
-bellman-ford-page-yes small source (bellman.unknown n p i h q) z r = absurd (clash source h)
-bellman-ford-page-yes small source (bellman.negative n p i h w q) z r = other 7 0 n z (λ y. omega arith)
-bellman-ford-page-yes {g} {s} {b} {e} small source (bellman.done n p i h w d q) z r = totals-yes g s (e .dist) (paged g b e p i (d .long)) i h small w (λ v k. d .each v (pos 0) k) r
+pub bellman-ford-page-yes : {g : Net ℤ} {s : ℕ} {b e : bellman.Buffers} {no : ℕ} {a : page.Answer} → has g s ≡ true → bellman.Promise g s b e no → no ≡ 0 → page.Promise g s (e .dist) a → a ≡ page.answerOf 0 true
+bellman-ford-page-yes source (bellman.short n p q) z r = other 1 0 n z (λ y. omega arith)
+bellman-ford-page-yes source (bellman.outside n p i q) z r = other 2 0 n z (λ y. omega arith)
+bellman-ford-page-yes source (bellman.unknown n p i h q) z r = absurd (clash source h)
+bellman-ford-page-yes source (bellman.negative n p i h w q) z r = other 7 0 n z (λ y. omega arith)
+bellman-ford-page-yes {g} {s} {b} {e} source (bellman.done n p i h w d q) z r = totals-yes g s (e .dist) (paged g b e p i (d .long)) i h w (λ v k. d .each v (pos 0) k) r

@@ -1,39 +1,32 @@
 -- Demand 2 in terms of walks: what the distances of `dijkstra`, `bellman_ford`, `floyd_warshall`, `johnson` and `hops` are, and when they are refused.
 -- `QUESTION-distances`: after 0 each entry used is a distance (`Distance` in specs/): a number given is the total of a walk, no walk has a lower total, and it is
 -- none exactly without a walk. `dijkstra-six`: 6 exactly when an arc below zero leaves an index in reach of the source. `QUESTION-seven`: 7 exactly when a closed
--- walk totals below zero: for `bellman_ford` one in reach of its source, for the matrices one anywhere. `bellman-ford-nowhere`: from a source that the map has not,
--- 0 with every distance none.
--- The argument: an entry is a least total or none without a walk, by the promise; that none is never a total follows, for `dijkstra`, since no total is below zero,
--- and otherwise, since a least total has fewer than 1,024 arcs, each of a cost within 32 bits
--- (`Costs32`, which `costs-32` gives for a lent slice of 32-bit entries).
+-- walk totals below zero: for `bellman_ford` one in reach of its source, for the matrices one anywhere, so (`QUESTION-undirected`) for every undirected map with a
+-- cost below zero. `QUESTION-diagonal`: after 0 the diagonal of a matrix is 0. `bellman-ford-nowhere`: from a source that the map has not, 0 with every distance none.
+-- The argument: by the promise an entry is a least total within -2^41 ..= 2^41, so that it is not none, or none without a walk.
 -- What `a_star` and the f64 search answer is what the pending bag yields (Bag); what a path of `a_star` is beside that, and when it is cheapest, is cited here from
 -- a_star (Gives), and when the page check says yes, from page (Settles).
 -- Assumes nothing.
-use mathlib.Core.Path.{_≡_, ap, _∙_, subst}
+use mathlib.Core.Path.{_≡_, ap, _∙_}
 use mathlib.Core.Bool.{Bool, true, false}
 use mathlib.Core.Logic.{inl, inr, _↔_}
-use mathlib.Core.List.{List, [], _∷_}
-use Prim.Native.Nat.{ℕ, zero, suc, _+_, _*_, _≤_, _<_, _^_}
+use mathlib.Core.List.{List}
+use Prim.Native.Nat.{ℕ, _+_, _*_, _<_}
 use native.Mathlib.Omega.{arith}
 use lib.IntN.{ℤ, pos}
 use lib.Signed.{_<ℤ_}
-use lib.ListN.{length, getD, take}
-use Rattle.whole.specs.Zed.{P, N, zed}
+use lib.ListN.{getD}
+use Rattle.whole.specs.Zed.{zed}
 use Rattle.whole.proofs.Cases.{clash, other, and-left}
 use Rattle.clean.specs.None.{noneI64, noneU32}
 use Rattle.clean.proofs.Filled.{filled-at}
-use Rattle.table.specs.Links.{zip3, Arc}
 use Rattle.table.proofs.Laws as table
-use Rattle.walks.specs.Walk.{Walk, Least, NoNeg, NegativeFrom, Negative, Entry}
-use Rattle.walks.specs.Pigeon.{In}
-use Rattle.walks.specs.Near.{Near}
-use Rattle.walks.proofs.Cheap.{least-within}
-use Rattle.net.specs.Net.{Net, netOf, ArcOf, LeadsOf, nodesOf, width, wholeNet, insideNet, has}
-use Rattle.net.proofs.Nodes.{present-in, width-most, member}
-use Rattle.net.proofs.Same.{arc-has}
+use Rattle.walks.specs.Walk.{Walk, NegativeFrom, Negative, Entry}
+use Rattle.net.specs.Net.{Net, ArcOf, LeadsOf, nodesOf, width, wholeNet, insideNet, has}
+use Rattle.net.proofs.Nodes.{width-most}
 use Rattle.pending.specs.Reach.{BadInReach}
 use Rattle.matrix.specs.Matrix.{AllPairs, short, outside, negative, done}
-use Rattle.matrix.proofs.Matrix.{closed-up}
+use Rattle.matrix.proofs.Matrix.{diagonal-zero}
 use Rattle.matrix.proofs.Settles as matrix-laws
 use Rattle.dijkstra.specs.Promise as dijkstra
 use Rattle.dijkstra.proofs.Settles as dijkstra-laws
@@ -49,42 +42,12 @@ use Rattle.page.proofs.Settles as page-laws
 use Rattle.hops.specs.Steps as steps
 use Rattle.hops.specs.Promise as hops
 use Rattle.hops.proofs.Settles as hops-laws
-use Rattle.promises.specs.Distance.{Distance, Hops, Costs32}
+use Rattle.promises.specs.Distance.{Distance, Hops}
 
--- ---- costs within 32 bits: those of a slice whose entries are
--- an arc's cost is an entry of the slice
-cost-at : (d : Bool) (n : ℕ) (xs ys : List ℕ) (cs : List ℤ) (u v : ℕ) (c : ℤ) → Arc d (take n (zip3 xs ys cs)) u v c → (i : ℕ) × (i < length cs) × (getD cs i (pos 0) ≡ c)
-cost-at d zero xs ys cs u v c a = absurd a
-cost-at d (suc n) [] ys cs u v c a = absurd a
-cost-at d (suc n) (x ∷ xs) [] cs u v c a = absurd a
-cost-at d (suc n) (x ∷ xs) (y ∷ ys) [] u v c a = absurd a
-cost-at d (suc n) (x ∷ xs) (y ∷ ys) (z ∷ cs) u v c (inl a) = (0, omega arith, a .1)
-cost-at d (suc n) (x ∷ xs) (y ∷ ys) (z ∷ cs) u v c (inr a) = let k = cost-at d n xs ys cs u v c a in (suc (k .0), omega (arith, k .1), k .2)
-
-pub costs-32 : (m n : ℕ) (d : Bool) (marks xs ys : List ℕ) (cs : List ℤ) → ((i : ℕ) → i < length cs → P (getD cs i (pos 0)) + N (getD cs i (pos 0)) ≤ 2 ^ 31) → Costs32 (netOf m n d marks xs ys cs)
-costs-32 m n d marks xs ys cs f u v c a = let k = cost-at d n xs ys cs u v c a in subst (λ (z : ℤ). P z + N z ≤ 2 ^ 31) (k .2) (f (k .0) (k .1))
-
--- ---- an entry is a distance, if none is no least total
-distance-of : {Arc : ℕ → ℕ → ℤ → Type 0} {s v : ℕ} {d : ℤ} → (Least Arc s v d → noneI64 <ℤ d) → Entry Arc s v d → Distance Arc s v d
-distance-of {d} f (inl l) =
-    let h : noneI64 <ℤ d = f l in
-    record { attained = λ n. l .walk; lowest = l .least; none-exactly = (λ e. absurd (omega (arith, zed)), λ n. absurd (n d (l .walk))) }
-distance-of f (inr p) = record { attained = λ n. absurd (n (p .0)); lowest = λ t w. absurd (p .1 t w); none-exactly = (λ e. p .1, λ n. p .0) }
-
--- a least total is small: costs of 32 bits, and fewer than 1,024 arcs
-pub least-near : (g : Net ℤ) {s v : ℕ} {d : ℤ} → wholeNet g ≡ true → insideNet g ≡ true → Costs32 g → In s (nodesOf g) → NoNeg (ArcOf g) s → Least (ArcOf g) s v d → Near (1024 * 2 ^ 31) d
-least-near g {d = d} whole inside small source none l =
-    let w = least-within (nodesOf g) (2 ^ 31) (λ x y c a. present-in g y (arc-has g inside x y c a .1)) source small none l in
-    let n : ℕ = w .0 in
-    let high : P d ≤ n * 2 ^ 31 + N d = w .2 .0 in
-    let low : N d ≤ n * 2 ^ 31 + P d = w .2 .1 in
-    let few : n < width g = w .1 in
-    let m : n < 1024 = omega (arith, width-most g, table.whole (g .bound) (g .count) (g .room) (g .marks) whole .indices) in
-    record { high = omega arith; low = omega arith }
-
--- so it is above none
-above-none : (g : Net ℤ) {s v : ℕ} {d : ℤ} → wholeNet g ≡ true → insideNet g ≡ true → Costs32 g → In s (nodesOf g) → NoNeg (ArcOf g) s → Least (ArcOf g) s v d → noneI64 <ℤ d
-above-none g {d = d} whole inside small source none l = omega (arith, zed, least-near g whole inside small source none l .low)
+-- ---- an entry is a distance
+distance-of : {Arc : ℕ → ℕ → ℤ → Type 0} {s v : ℕ} {d : ℤ} → Entry Arc s v d → Distance Arc s v d
+distance-of {d} (inl l) = record { attained = λ n. l .0 .walk; lowest = l .0 .least; none-exactly = (λ e. absurd (let w = l .1 in omega (arith, zed)), λ n. absurd (n d (l .0 .walk))) }
+distance-of (inr p) = record { attained = λ n. absurd (n (p .0)); lowest = λ t w. absurd (p .1 t w); none-exactly = (λ e. p .1, λ n. p .0) }
 
 -- ---- `dijkstra`
 module _ {g : Net ℤ} {s : ℕ} {b e : dijkstra.Buffers} {no : ℕ} (p : dijkstra.Promise g s b e no) where
@@ -96,22 +59,22 @@ module _ {g : Net ℤ} {s : ℕ} {b e : dijkstra.Buffers} {no : ℕ} (p : dijkst
       go (dijkstra.outside n l i q) = other 2 0 n z (λ y. omega arith)
       go (dijkstra.unknown n l i h q) = other 3 0 n z (λ y. omega arith)
       go (dijkstra.bad n l i h w q) = other 6 0 n z (λ y. omega arith)
-      go (dijkstra.done n l i h w d q) = distance-of (λ x. dijkstra-laws.total-not-none g s v (getD (e .dist) v (pos 0)) i h w x) (d .each v (pos 0) k)
+      go (dijkstra.done n l i h w d q) = distance-of (d .each v (pos 0) k)
 
   pub dijkstra-six : (no ≡ 6) ↔ ((dijkstra.enough g b ≡ true) × (insideNet g ≡ true) × (has g s ≡ true) × BadInReach (ArcOf g) s)
   dijkstra-six = dijkstra-laws.six-exactly p
 
 -- ---- `bellman_ford`
 module _ {g : Net ℤ} {s : ℕ} {b e : bellman.Buffers} {no : ℕ} (p : bellman.Promise g s b e no) where
-  pub bellman-ford-distances : Costs32 g → has g s ≡ true → no ≡ 0 → (v : ℕ) → v < g .bound → Distance (ArcOf g) s v (getD (e .dist) v (pos 0))
-  bellman-ford-distances small source z v k = go p
+  pub bellman-ford-distances : has g s ≡ true → no ≡ 0 → (v : ℕ) → v < g .bound → Distance (ArcOf g) s v (getD (e .dist) v (pos 0))
+  bellman-ford-distances source z v k = go p
     where
       go : bellman.Promise g s b e no → Distance (ArcOf g) s v (getD (e .dist) v (pos 0))
       go (bellman.short n l q) = other 1 0 n z (λ y. omega arith)
       go (bellman.outside n l i q) = other 2 0 n z (λ y. omega arith)
       go (bellman.unknown n l i h q) = absurd (clash source h)
       go (bellman.negative n l i h w q) = other 7 0 n z (λ y. omega arith)
-      go (bellman.done n l i h w d q) = distance-of (λ x. above-none g (and-left (wholeNet g) _ l) i small (present-in g s h) w x) (d .each v (pos 0) k)
+      go (bellman.done n l i h w d q) = distance-of (d .each v (pos 0) k)
 
   -- from a source that the map has not: 0, and every distance none
   pub bellman-ford-nowhere : bellman.enough g b ≡ true → insideNet g ≡ true → has g s ≡ false → (no ≡ 0) × ((v : ℕ) → v < g .bound → getD (e .dist) v (pos 0) ≡ noneI64)
@@ -131,26 +94,48 @@ module _ {g : Net ℤ} {s : ℕ} {b e : bellman.Buffers} {no : ℕ} (p : bellman
 abbrev Distances : Net ℤ → List ℤ → Type 0
 Distances g matrix = (i j : ℕ) → i < width g → j < width g → Distance (ArcOf g) (getD (nodesOf g) i 0) (getD (nodesOf g) j 0) (getD matrix (i * width g + j) (pos 0))
 
-all-distances : {S : Type 0} {g : Net ℤ} {long : Bool} {lent clear left : S} {before after : List ℤ} {no : ℕ} → (long ≡ true → wholeNet g ≡ true) → Costs32 g → AllPairs g long lent clear left before after no → no ≡ 0 → Distances g after
-all-distances whole small (short n l a s) z i j h k = other 1 0 n z (λ y. omega arith)
-all-distances whole small (outside n l x a s) z i j h k = other 2 0 n z (λ y. omega arith)
-all-distances whole small (negative n l x w a s) z i j h k = other 7 0 n z (λ y. omega arith)
-all-distances {g = g} whole small (done n l x w a s) z i j h k = distance-of (λ y. above-none g (whole l) x small (member (nodesOf g) i h) (λ v t r c o. closed-up w o) y) (a .each i j h k)
+module _ {S : Type 0} {g : Net ℤ} {long : Bool} {lent clear left : S} {before after : List ℤ} {no : ℕ} where
+  all-distances : AllPairs g long lent clear left before after no → no ≡ 0 → Distances g after
+  all-distances (short n l a s) z i j h k = other 1 0 n z (λ y. omega arith)
+  all-distances (outside n l x a s) z i j h k = other 2 0 n z (λ y. omega arith)
+  all-distances (negative n l x w a s) z i j h k = other 7 0 n z (λ y. omega arith)
+  all-distances (done n l x w a s) z i j h k = distance-of (a .each i j h k)
+
+  diagonal : AllPairs g long lent clear left before after no → no ≡ 0 → (i : ℕ) → i < width g → getD after (i * width g + i) (pos 0) ≡ pos 0
+  diagonal (short n l a s) z i h = other 1 0 n z (λ y. omega arith)
+  diagonal (outside n l x a s) z i h = other 2 0 n z (λ y. omega arith)
+  diagonal (negative n l x w a s) z i h = other 7 0 n z (λ y. omega arith)
+  diagonal (done n l x w a s) z i h = diagonal-zero w a i h
 
 module _ {g : Net ℤ} {m m′ : List ℤ} {r r′ : List ℕ} {no : ℕ} (p : floyd.Promise g m r m′ r′ no) where
-  pub floyd-warshall-distances : Costs32 g → no ≡ 0 → Distances g m′
-  unfolding floyd.enough
-  floyd-warshall-distances small z = all-distances (λ e. and-left (wholeNet g) _ e) small p z
+  pub floyd-warshall-distances : no ≡ 0 → Distances g m′
+  floyd-warshall-distances z = all-distances p z
+
+  -- the diagonal is 0
+  pub floyd-warshall-diagonal : no ≡ 0 → (i : ℕ) → i < width g → getD m′ (i * width g + i) (pos 0) ≡ pos 0
+  floyd-warshall-diagonal z = diagonal p z
 
   pub floyd-warshall-seven : (no ≡ 7) ↔ ((floyd.enough g m r ≡ true) × (insideNet g ≡ true) × Negative (ArcOf g))
   floyd-warshall-seven = matrix-laws.seven-exactly p
 
+  -- so for every undirected map with a cost below zero
+  pub floyd-warshall-undirected : floyd.enough g m r ≡ true → insideNet g ≡ true → g .directed ≡ false → (u v : ℕ) (c : ℤ) → ArcOf g u v c → c <ℤ pos 0 → no ≡ 7
+  floyd-warshall-undirected long inside d u v c a h = floyd-warshall-seven .1 (long, inside, matrix-laws.undirected-negative g d u v c a h)
+
 module _ {g : Net ℤ} {m m′ : List ℤ} {s s′ : johnson.Scratch} {no : ℕ} (p : johnson.Promise g m s m′ s′ no) where
-  pub johnson-distances : Costs32 g → no ≡ 0 → Distances g m′
-  johnson-distances small z = all-distances (λ e. and-left (wholeNet g) _ e) small p z
+  pub johnson-distances : no ≡ 0 → Distances g m′
+  johnson-distances z = all-distances p z
+
+  -- the diagonal is 0
+  pub johnson-diagonal : no ≡ 0 → (i : ℕ) → i < width g → getD m′ (i * width g + i) (pos 0) ≡ pos 0
+  johnson-diagonal z = diagonal p z
 
   pub johnson-seven : (no ≡ 7) ↔ ((johnson.enough g m s ≡ true) × (insideNet g ≡ true) × Negative (ArcOf g))
   johnson-seven = matrix-laws.seven-exactly p
+
+  -- so for every undirected map with a cost below zero
+  pub johnson-undirected : johnson.enough g m s ≡ true → insideNet g ≡ true → g .directed ≡ false → (u v : ℕ) (c : ℤ) → ArcOf g u v c → c <ℤ pos 0 → no ≡ 7
+  johnson-undirected long inside d u v c a h = johnson-seven .1 (long, inside, matrix-laws.undirected-negative g d u v c a h)
 
 -- ---- `hops` and `hops_f64`: in row i and column j the number of hops from the i-th node to the j-th; fewer than the map has nodes, so never none
 module _ {C : Type 0} (g : Net C) where

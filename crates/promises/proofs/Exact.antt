@@ -15,26 +15,23 @@ use lib.IntN.{ℤ, pos}
 use lib.Signed.{_<ℤ_}
 use lib.ListN.{getD}
 use lib.Ieee.{Float, nan, inf}
-use Rattle.whole.specs.Zed.{P, N, zed}
-use Rattle.whole.proofs.Cases.{clash, other, and-left}
+use Rattle.whole.specs.Zed.{zed}
+use Rattle.whole.proofs.Cases.{clash, other}
 use Rattle.clean.specs.None.{noneI64, noneF64, shown}
 use Rattle.float.specs.declared.Cutoff.the-variants.{None, At}
 use Rattle.table.specs.Links.{Link, Arc}
 use Rattle.table.specs.Lent.{FloatCost, floatCost}
-use Rattle.walks.specs.Walk.{Least, Entry}
-use Rattle.net.specs.Net.{Net, linksOf, ArcOf, OpenArcOf, wholeNet, insideNet, has}
-use Rattle.net.proofs.Nodes.{present-in}
+use Rattle.walks.specs.Walk.{Entry}
+use Rattle.walks.proofs.Over.{total-of}
+use Rattle.net.specs.Net.{Net, linksOf, ArcOf, OpenArcOf}
 use Rattle.pending.specs.Reach.{BadInReach}
 use Rattle.pending.proofs.Exact.{WholeCost}
 use Rattle.dijkstra.specs.Promise as dijkstra
-use Rattle.dijkstra.proofs.Settles.{no-negative}
 use Rattle.dijkstra_path.specs.Promise as search
 use Rattle.dijkstra_path.proofs.Settles.{cutoff-nan, cutoff-infinity}
 use Rattle.dijkstra_path.proofs.Exact as search-exact
 use Rattle.hops.proofs.Settles.{SameEnds, ends-back, inside-over}
-use Rattle.promises.specs.Distance.{Costs32}
 use Rattle.promises.specs.Exact.{pattern, converted, Converted, SameNumber, neither, both, Agrees}
-use Rattle.promises.proofs.Demand2.{least-near}
 
 -- ---- the arcs of a map with each cost converted
 convert-to : (d : Bool) (ls : List (Link ℤ)) (u v : ℕ) (c : ℤ) → Arc d ls u v c → Arc d (map converted ls) u v (floatCost (pattern c) true)
@@ -62,7 +59,7 @@ module _ {g : Net ℤ} {h : Net FloatCost} (k : Converted g h) where
   same-ends : SameEnds g h
   same-ends = record { bound = k .bound; count = k .count; directed = k .directed; has = k .has; leads = λ u v. (λ a. (floatCost (pattern (a .0)) true, arc-to u v (a .0) (a .1)), λ a. let b = arc-from u v (a .0) (a .1) in (b .0, b .1)) }
 
-  -- no arc is below zero, and every cost fits 32 bits
+  -- no arc is below zero
   none-bad : {s : ℕ} → BadInReach (ArcOf g) s → ⊥
   none-bad b =
       let w = k .whole (b .u) (b .v) (b .c) (b .arc-is) in
@@ -71,14 +68,6 @@ module _ {g : Net ℤ} {h : Net FloatCost} (k : Converted g h) where
       let e : z ≡ pos n = w .is in
       let f : z <ℤ pos 0 = b .below in
       omega (arith, zed)
-
-  costs-small : Costs32 g
-  costs-small u v c a =
-      let w = k .whole u v c a in
-      subst (λ (z : ℤ). P z + N z ≤ 2 ^ 31) (sym (w .is)) (fits (w .size) (w .small))
-    where
-      fits : (n : ℕ) → n < 2 ^ 31 → P (pos n) + N (pos n) ≤ 2 ^ 31
-      fits n q = omega arith
 
   -- each cost and its pattern
   whole-cost : (u v : ℕ) (c : ℤ) → ArcOf g u v c → WholeCost c (pattern c)
@@ -93,17 +82,13 @@ module _ {g : Net ℤ} {h : Net FloatCost} (k : Converted g h) where
   from : (u v x : ℕ) → OpenArcOf h u v x → (c : ℤ) × ArcOf g u v c × WholeCost c x
   from u v x a = let t = arc-from u v (floatCost x true) a in (t .0, t .1, subst (WholeCost (t .0)) (ap (λ (y : FloatCost). y .bits) (t .2)) (whole-cost u v (t .0) (t .1)))
 
-  -- a least total is a whole number that f64 holds exactly
-  exact-size : (s : ℕ) {v n : ℕ} {d : ℤ} → wholeNet g ≡ true → insideNet g ≡ true → has g s ≡ true → Least (ArcOf g) s v d → d ≡ pos n → n ≤ 2 ^ 53
-  exact-size s {n = n} {d = d} whole inside source l e = omega (arith, zed, least-near g whole inside costs-small (present-in g s source) (no-negative none-bad) l .high)
-
--- an entry and the f64 entry that shows the same are one number, or both none
-same-number : {Arc : ℕ → ℕ → ℤ → Type 0} {s v : ℕ} {d : ℤ} {x : Float} (y : Option ℤ) → d ≡ shown noneI64 y → search-exact.SameNumber y x → Entry Arc s v d → ((n : ℕ) → Least Arc s v d → d ≡ pos n → n ≤ 2 ^ 53) → SameNumber d x
-same-number none e q t f = neither e q
-same-number {d} (some z) e q t f =
+-- an entry and the f64 entry that shows the same are one number, which f64 holds exactly, or both none
+same-number : {Arc : ℕ → ℕ → ℤ → Type 0} {s v : ℕ} {d : ℤ} {x : Float} (y : Option ℤ) → d ≡ shown noneI64 y → search-exact.SameNumber y x → Entry Arc s v d → SameNumber d x
+same-number none e q t = neither e q
+same-number {d} (some z) e q t =
     let n : ℕ = q .0 in
     let i : d ≡ pos n = e ∙ q .1 in
-    both n (⊎-elim (λ l. f n l i) (λ p. absurd (let a : d ≡ noneI64 = p .0 in omega (arith, zed))) t) i (q .2)
+    both n (⊎-elim (λ l. omega (arith, zed, l .1)) (λ p. absurd (let a : d ≡ noneI64 = p .0 in omega (arith, zed))) t) i (q .2)
 
 -- ---- the exact case
 module _ {g : Net ℤ} {h : Net FloatCost} {s : ℕ} {b e : dijkstra.Buffers} {b′ e′ : search.Buffers} {no no′ : ℕ} (k : Converted g h) where
@@ -129,8 +114,8 @@ module _ {g : Net ℤ} {h : Net FloatCost} {s : ℕ} {b e : dijkstra.Buffers} {b
       each : no ≡ 0 → (v : ℕ) → v < g .bound → SameNumber (getD (e .dist) v (pos 0)) (getD (e′ .dist) v noneF64)
       each z v m =
           let t = d .each v (pos 0) m in
-          let y = search-exact.exact-entry g (to k) (from k) (search.done n′ p′ i′ h′ x′ r′ z′ a′ q′) n′ v (subst (λ (j : ℕ). v < j) (k .bound) m) t in
-          same-number (y .0) (y .1) (y .2) t (λ c l q. exact-size k s (and-left (wholeNet g) _ p) i w l q)
+          let y = search-exact.exact-entry g (to k) (from k) (search.done n′ p′ i′ h′ x′ r′ z′ a′ q′) n′ v (subst (λ (j : ℕ). v < j) (k .bound) m) (total-of t) in
+          same-number (y .0) (y .1) (y .2) t
 
   -- a cutoff that is NaN or +infinity cuts nothing
   pub exact-nan : dijkstra.Promise g s b e no → search.Promise h s (At nan) b′ e′ no′ → (no ≡ 1 → ⊥) → (no′ ≡ 1 → ⊥) → Agrees (g .bound) (e .dist) (e′ .dist) no no′

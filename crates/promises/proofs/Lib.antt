@@ -3,6 +3,7 @@ pub mod Demand2
 pub mod Memory
 pub mod Demand3
 pub mod Agree
+pub mod Scratch
 pub mod Exact
 pub mod Helpers
 pub mod Bag

@@ -2,13 +2,11 @@
 -- Assumes nothing.
 use mathlib.Core.Path.{_≡_}
 use mathlib.Core.Logic.{_↔_}
-use Prim.Native.Nat.{ℕ, _+_, _≤_, _^_}
+use Prim.Native.Nat.{ℕ, _≤_}
 use lib.IntN.{ℤ}
 use lib.Signed.{_≤ℤ_}
-use Rattle.whole.specs.Zed.{P, N}
 use Rattle.clean.specs.None.{noneI64, noneU32}
 use Rattle.walks.specs.Walk.{Walk}
-use Rattle.net.specs.Net.{Net, ArcOf}
 use Rattle.hops.specs.Steps.{Steps}
 
 -- d is the distance from s to v: a number given is the total of a walk, no walk has a lower total, and it is none exactly without a walk
@@ -22,7 +20,3 @@ pub record Hops (Leads : ℕ → ℕ → Type 0) (s v d : ℕ) : Type 0 where
   pub attained : (d ≡ noneU32 → ⊥) → Steps Leads s v d
   pub lowest : (n : ℕ) → Steps Leads s v n → d ≤ n
   pub none-exactly : (d ≡ noneU32) ↔ ((n : ℕ) → Steps Leads s v n → ⊥)
-
--- every cost fits 32 bits, as the slice that it is read from has it
-abbrev pub Costs32 : Net ℤ → Type 0
-Costs32 g = (u v : ℕ) (c : ℤ) → ArcOf g u v c → P c + N c ≤ 2 ^ 31

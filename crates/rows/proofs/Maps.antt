@@ -4,7 +4,7 @@ use mathlib.Core.Path.{_≡_, refl, sym, ap, _∙_, subst}
 use mathlib.Core.Bool.{Bool, true, false, cond, not}
 use mathlib.Core.Logic.{inl, inr, _↔_}
 use mathlib.Core.List.{List, [], _∷_, _++_}
-use Prim.Native.Nat.{ℕ, zero, suc, _+_, _≤_, _<_, _^_}
+use Prim.Native.Nat.{ℕ, zero, suc, _+_, _≤_, _<_}
 use native.Mathlib.Nat.{not-suc-le-zero, le-of-suc-le-suc}
 use native.Mathlib.Omega.{arith}
 use lib.Dec.{eqb}
@@ -18,8 +18,8 @@ use Rattle.table.proofs.Arcs.{arc-inside}
 use Rattle.net.specs.Net.{Net, netOf, netOf64, linksOf, ArcOf, OpenArcOf, wholeNet, insideNet, arcRoom, sizeOf}
 use Rattle.net.proofs.Bounds.{whole-ints, long-ints, whole-floats, long-floats}
 use Rattle.net.proofs.Same.{arc-below, open-below}
-use Rattle.whole.specs.Zed.{P, N}
-use Rattle.rows.specs.Rows.{Lists, openLinks, arcsEnds, Ready, Room, Rows, Small}
+use Rattle.walks.specs.Costs.{Costs32}
+use Rattle.rows.specs.Rows.{Lists, openLinks, arcsEnds, Ready, Room, Rows}
 use Rattle.rows.specs.RowArc.{RowArc, Sound}
 use Rattle.rows.specs.Kept.{KeptLists, Needs}
 use Rattle.rows.proofs.Graph.{arc-of, row-of, sound}
@@ -103,7 +103,7 @@ module _ {C : Type 0} (g : Net C) (i : insideNet g ≡ true) {s₀ nb : Lists C}
   net-kept = rows-kept (links-room (g .directed) (g .count) (g .table)) r
 
 -- each weight that stands in the list of an integer map is small
-pub row-small : (d : Bool) (ls : List (Link ℤ)) {m : ℕ} {s₀ nb : Lists ℤ} → Rows (arcs d ls) m s₀ nb → Small d ls → (u v : ℕ) (c : ℤ) → RowArc m nb u v c → P c + N c ≤ 2 ^ 31
+pub row-small : (d : Bool) (ls : List (Link ℤ)) {m : ℕ} {s₀ nb : Lists ℤ} → Rows (arcs d ls) m s₀ nb → Costs32 (Arc d ls) → Costs32 (RowArc m nb)
 row-small d ls r f u v c a = f u v c (arc-of d ls r u v c a)
 
 -- the open arcs of an f64 map

@@ -13,7 +13,7 @@ use lib.ListN.{length, getD, List·getD-eq-default}
 use borrow.Author.Tests.{lt-ltb, eq-eqb, ne-eqb}
 use mir.Syntax.{w64}
 use mir.Val.{SFits}
-use Rattle.whole.specs.Zed.{_⊕_, P, N, zed, sum, le-in, lt-yes, lt-no}
+use Rattle.whole.specs.Zed.{_⊕_, zed, sum, le-in, lt-yes, lt-no, Within}
 use Rattle.clean.specs.None.{noneI64}
 use Rattle.clean.specs.Better.{betterThan}
 use Rattle.bag.specs.Ints.{Near}
@@ -112,7 +112,7 @@ module _ {h : List ℤ} {d : ℤ} {v : ℕ} {c : ℤ} (low : pos 0 ≤ℤ d) (co
   c-low = omega (arith, zed)
 
   -- its two numbers
-  pub parts-small : (P d + N d ≤ 2 ^ 60) × (P c + N c ≤ 2 ^ 60)
+  pub parts-small : Within (2 ^ 60) d × Within (2 ^ 60) c
   parts-small = let a : d ≤ℤ pos far = r .high in (omega (arith, zed, nonneg d low), omega (arith, r .cheap, nonneg c c-low))
 
   -- itself

@@ -14,8 +14,8 @@ use lib.Seq.{getD-take}
 use Rattle.whole.specs.Zed.{_⊕_, zed, sum}
 use Rattle.clean.specs.None.{noneI64, noneU32, shown}
 use Rattle.clean.proofs.Filled.{no-default, settle, settled-over}
-use Rattle.walks.specs.Walk.{Least, Entry}
-use Rattle.walks.proofs.Over.{walk-over, entry-over}
+use Rattle.walks.specs.Walk.{Least, Total}
+use Rattle.walks.proofs.Over.{walk-over, total-over}
 use Rattle.rows.specs.Rows.{Lists}
 use Rattle.rows.specs.RowArc.{RowArc}
 use Rattle.bag.specs.Order.{pick}
@@ -74,13 +74,13 @@ module _ {m s : ℕ} {nb : Lists ℤ} where
     answer = dijkstra-answer (RowArc m nb) s (subst (λ (S : Setting ℤ ℤ). Ends S (RowArc m nb) (begin S) 0 (w .searched .end)) (setting-is m s) (w .searched .ends))
 
     -- each distance is the least total, or none without a walk
-    entry : w .searched .end .number ≡ 0 → (v : ℕ) → Entry (RowArc m nb) s v (getD (take m (M′ .dist)) v noneI64)
-    entry e v = go (w .searched .end .dist v) refl
+    total : w .searched .end .number ≡ 0 → (v : ℕ) → Total (RowArc m nb) s v (getD (take m (M′ .dist)) v noneI64)
+    total e v = go (w .searched .end .dist v) refl
       where
         reads : getD (take m (M′ .dist)) v noneI64 ≡ shown noneI64 (w .searched .end .dist v)
         reads = w .searched .shows (w .searched .is ∙ e) .dist v
 
-        go : (o : Option ℤ) → w .searched .end .dist v ≡ o → Entry (RowArc m nb) s v (getD (take m (M′ .dist)) v noneI64)
+        go : (o : Option ℤ) → w .searched .end .dist v ≡ o → Total (RowArc m nb) s v (getD (take m (M′ .dist)) v noneI64)
         go none f = inr (reads ∙ ap (shown noneI64) f, λ t x. answer .unreached e v f t x)
         go (some d) f = inl (subst (λ (z : ℤ). Least (RowArc m nb) s v z) (sym (reads ∙ ap (shown noneI64) f)) (answer .least e v d f))
 
@@ -89,7 +89,7 @@ module _ {m s : ℕ} {nb : Lists ℤ} where
     reached = go (answer .number)
       where
         go : (w .searched .end .number ≡ 0) ⊎ (w .searched .end .number ≡ 6) → Reached (RowArc m nb) m s (M .dist) (M′ .dist) number
-        go (inl e) = done (w .searched .is ∙ e) (answer .clean e) (settle noneI64 room (w .kept .dist .long) (λ v h. subst (Entry (RowArc m nb) s v) (getD-take m (M′ .dist) v noneI64 h) (entry e v)) (w .kept .dist .rest))
+        go (inl e) = done (w .searched .is ∙ e) (answer .clean e) (settle noneI64 room (w .kept .dist .long) (λ v h. subst (Total (RowArc m nb) s v) (getD-take m (M′ .dist) v noneI64 h) (total e v)) (w .kept .dist .rest))
         go (inr e) = bad (w .searched .is ∙ e) (answer .refused-why e)
 
 -- ---- the answer goes by the arcs alone
@@ -101,5 +101,5 @@ module _ {A B : ℕ → ℕ → ℤ → Type 0} (f : (u v : ℕ) (c : ℤ) → A
 module _ {A B : ℕ → ℕ → ℤ → Type 0} (f : (u v : ℕ) (c : ℤ) → A u v c → B u v c) (b : (u v : ℕ) (c : ℤ) → B u v c → A u v c) where
   -- the distances
   pub reached-over : {m s : ℕ} {before after : List ℤ} {no : ℕ} → Reached A m s before after no → Reached B m s before after no
-  reached-over (done e n d) = done e (λ x. n (bad-over b x)) (settled-over (λ v h x y. entry-over f b y) d)
+  reached-over (done e n d) = done e (λ x. n (bad-over b x)) (settled-over (λ v h x y. total-over f b y) d)
   reached-over (bad e n) = bad e (bad-over f n)

@@ -6,7 +6,7 @@ use Prim.Native.Nat.{ℕ, _≤_}
 use lib.IntN.{ℤ}
 use Rattle.whole.specs.Zed.{P}
 use Rattle.clean.specs.Fill.{Settled}
-use Rattle.walks.specs.Walk.{Entry}
+use Rattle.walks.specs.Walk.{Total}
 use Rattle.rows.specs.Rows.{Lists}
 use Rattle.rows.specs.RowArc.{RowArc, Sound}
 use Rattle.pending.specs.Reach.{BadInReach}
@@ -25,5 +25,5 @@ pub record Cheap (m : ℕ) (nb : Lists ℤ) : Type 0 where
 
 -- the distances from s after the question without heuristic and target: 0 with every least total, or 6 with an arc below zero in reach
 pub data Reached (Arc : ℕ → ℕ → ℤ → Type 0) (m s : ℕ) (before after : List ℤ) (no : ℕ) : Type 0 where
-  done : no ≡ 0 → (BadInReach Arc s → ⊥) → Settled m (Entry Arc s) before after → Reached Arc m s before after no
+  done : no ≡ 0 → (BadInReach Arc s → ⊥) → Settled m (Total Arc s) before after → Reached Arc m s before after no
   bad : no ≡ 6 → BadInReach Arc s → Reached Arc m s before after no

@@ -26,7 +26,7 @@ use Rattle.net.specs.Net.{ArcOf, wholeNet, arcRoom}
 use Rattle.rows.specs.Scratch.{hasRoom}
 use Rattle.search.specs.Lists.{hasMemory}
 use Rattle.matrix.specs.Matrix.{Matrix}
-use Rattle.dijkstra.proofs.Settles.{total-up, no-negative}
+use Rattle.dijkstra.proofs.Up.{total-up, no-negative}
 use Rattle.bellman_ford.proofs.Settles.{undirected-negative}
 use Rattle.dijkstra.specs.Promise as Dijkstra
 use Rattle.bellman_ford.specs.Promise as BellmanFord
@@ -56,7 +56,7 @@ module _ {Arc : ℕ → ℕ → ℤ → Type 0} (up : (u v : ℕ) (c : ℤ) → 
 
   -- an index is at 0 from itself
   own-entry : {s : ℕ} → Entry Arc s s (pos 0)
-  own-entry = inl (record { walk = stay refl; least = λ t w. total-up none-bad {a = pos 0} (stay refl) w })
+  own-entry = inl (record { walk = stay refl; least = λ t w. total-up none-bad {a = pos 0} (stay refl) w }, omega arith)
 
 -- ---- S1
 -- within the limits
@@ -140,7 +140,7 @@ behind-good n = behind-end (n .v) (n .c) (subst (λ (x : ℕ). ArcOf behind x (n
 behind-entry : (v : ℕ) → v < 3 → Entry (ArcOf behind) 2 v (getD (noneI64 ∷ noneI64 ∷ pos 0 ∷ []) v (pos 0))
 behind-entry zero h = inr (refl, λ t w. let q : _≡_ {A = ℕ} 0 2 = stays behind-end w .0 in omega (arith, q))
 behind-entry (suc zero) h = inr (refl, λ t w. let q : _≡_ {A = ℕ} 1 2 = stays behind-end w .0 in omega (arith, q))
-behind-entry (suc (suc zero)) h = inl (record { walk = stay refl; least = λ t w. let q : t ≡ pos 0 = stays behind-end w .1 in omega (arith, zed) })
+behind-entry (suc (suc zero)) h = inl (record { walk = stay refl; least = λ t w. let q : t ≡ pos 0 = stays behind-end w .1 in omega (arith, zed) }, omega arith)
 behind-entry (suc (suc (suc v))) h = absurd (omega arith)
 
 -- ---- S5
@@ -193,12 +193,12 @@ apart-far v h t w = go (comes v t w)
 
 -- the distances from 0
 apart-entry : (v : ℕ) → v < 4 → Entry (ArcOf apart) 0 v (getD (pos 0 ∷ pos 2 ∷ noneI64 ∷ noneI64 ∷ []) v (pos 0))
-apart-entry zero h = inl (record { walk = stay refl; least = λ t w. go t (comes 0 t w) })
+apart-entry zero h = inl (record { walk = stay refl; least = λ t w. go t (comes 0 t w) }, omega arith)
   where
     go : (t : ℤ) → Comes 0 t → pos 0 ≤ℤ t
     go t (inl p) = let q : t ≡ pos 0 = p .1 in omega (arith, zed)
     go t (inr p) = let q : t ≡ pos 2 = p .1 in omega (arith, zed)
-apart-entry (suc zero) h = inl (record { walk = arc (inl (joins-of true 0 1 (linkOf 0 1 (pos 2)) (inl (refl, refl)), refl)); least = λ t w. go t (comes 1 t w) })
+apart-entry (suc zero) h = inl (record { walk = arc (inl (joins-of true 0 1 (linkOf 0 1 (pos 2)) (inl (refl, refl)), refl)); least = λ t w. go t (comes 1 t w) }, omega arith)
   where
     go : (t : ℤ) → Comes 1 t → pos 2 ≤ℤ t
     go t (inl p) = absurd (let q : _≡_ {A = ℕ} 1 0 = p .0 in omega (arith, q))

@@ -6,16 +6,16 @@ use mathlib.Core.Path.{_≡_, refl}
 use mathlib.Core.Bool.{Bool, true, false}
 use mathlib.Core.List.{List}
 use mathlib.Core.Logic.{_⊎_, inl, inr}
-use Prim.Native.Nat.{ℕ, _+_, _*_, _≤_, _<_}
+use Prim.Native.Nat.{ℕ, _*_, _≤_, _<_}
 use native.Mathlib.Nat.{mul-le-mul-right, le-of-lt}
 use native.Mathlib.Omega.{arith}
 use lib.ListN.{length}
 use lib.IntN.{ℤ, pos}
 use lib.Signed.{ltZ, _≤ℤ_}
-use Rattle.whole.specs.Zed.{_⊕_, P, N, zed, sum}
+use Rattle.whole.specs.Zed.{_⊕_, zed, sum, Within, within-of}
 use Rattle.walks.specs.Pigeon.{In, NoDup}
 use Rattle.walks.specs.Walk.{Walk, stay, step, Least, NoNeg, NegativeFrom, Negative}
-use Rattle.walks.specs.Near.{Near}
+use Rattle.walks.specs.Costs.{Costs}
 use Rattle.walks.proofs.Pigeon.{in?}
 use Rattle.walks.proofs.Walk.{arcs, verts, Cut, cut, few, bounded, not-both, anywhere}
 
@@ -24,7 +24,7 @@ pub record Cheap (Arc : ℕ → ℕ → ℤ → Type 0) (b u v : ℕ) (t : ℤ) 
   pub s : ℤ
   pub walk : Walk Arc u v s
   pub cheap : s ≤ℤ t
-  pub near : Near b s
+  pub near : Within b s
 
 module _ {Arc : ℕ → ℕ → ℤ → Type 0} where
   -- a walk without repeats that is no dearer
@@ -69,7 +69,7 @@ module _ {Arc : ℕ → ℕ → ℤ → Type 0} where
   simple-or w = elim (simple-from w) [ inl n ↦ inl (anywhere n) | inr q ↦ inr q ]
 
   -- where each arc leads to a member of ps and costs are in -b ..= b
-  module _ (ps : List ℕ) (b : ℕ) (ins : (u v : ℕ) (c : ℤ) → Arc u v c → In v ps) (costs : (u v : ℕ) (c : ℤ) → Arc u v c → P c + N c ≤ b) where
+  module _ (ps : List ℕ) (b : ℕ) (ins : (u v : ℕ) (c : ℤ) → Arc u v c → In v ps) (costs : Costs b Arc) where
     -- a walk that is no dearer, with a total in -(p * b) ..= p * b
     pub cheap-or : {u v : ℕ} {t : ℤ} → In u ps → Walk Arc u v t → Negative Arc ⊎ Cheap Arc (length ps * b) u v t
     cheap-or {u} {v} {t} i w = go (simple-or w)
@@ -79,15 +79,14 @@ module _ {Arc : ℕ → ℕ → ℤ → Type 0} where
         go (inr q) =
             let f : arcs (q .walk) < length ps = few ps ins i (q .walk) (q .nodup) in
             let m : arcs (q .walk) * b ≤ length ps * b = mul-le-mul-right b (le-of-lt f) in
-            let g : (P (q .s) ≤ arcs (q .walk) * b + N (q .s)) × (N (q .s) ≤ arcs (q .walk) * b + P (q .s)) = bounded b costs (q .walk) in
-            inr (record { s = q .s; walk = q .walk; cheap = q .cheap; near = record { high = omega arith; low = omega arith } })
+            let g : Within (arcs (q .walk) * b) (q .s) = bounded b costs (q .walk) in
+            inr (record { s = q .s; walk = q .walk; cheap = q .cheap; near = omega arith })
 
   -- with no closed walk below zero in reach, a least total lies within (p - 1) * B
-  pub least-within : {s v : ℕ} {d : ℤ} (ps : List ℕ) (B : ℕ) → ((u v : ℕ) (c : ℤ) → Arc u v c → In v ps) → In s ps → ((u v : ℕ) (c : ℤ) → Arc u v c → P c + N c ≤ B) → NoNeg Arc s → Least Arc s v d
-      → (n : ℕ) × n < length ps × ((P d ≤ n * B + N d) × (N d ≤ n * B + P d))
+  pub least-within : {s v : ℕ} {d : ℤ} (ps : List ℕ) (B : ℕ) → ((u v : ℕ) (c : ℤ) → Arc u v c → In v ps) → In s ps → Costs B Arc → NoNeg Arc s → Least Arc s v d → (n : ℕ) × n < length ps × Within (n * B) d
   least-within {s} {v} {d} ps B f i g nn l =
       let q : Simple (l .walk) = elim (simple-from (l .walk)) [ inl n ↦ absurd (not-both n nn) | inr q ↦ q ] in
-      let b : (P (q .s) ≤ arcs (q .walk) * B + N (q .s)) × (N (q .s) ≤ arcs (q .walk) * B + P (q .s)) = bounded B g (q .walk) in
+      let b : Within (arcs (q .walk) * B) (q .s) = bounded B g (q .walk) in
       let e : d ≤ℤ q .s = l .least (q .s) (q .walk) in
       let h : q .s ≤ℤ d = q .cheap in
-      (arcs (q .walk), few ps f i (q .walk) (q .nodup), omega (arith, zed))
+      (arcs (q .walk), few ps f i (q .walk) (q .nodup), within-of (arcs (q .walk) * B) d (omega (arith, zed)) (omega (arith, zed)))

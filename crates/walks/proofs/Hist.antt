@@ -2,12 +2,13 @@
 -- less than any that its index had. Hence labels lie within the bound at every moment, and a path length that reaches p shows a closed walk below zero (Fall).
 use mathlib.Core.Path.{_≡_, sym, subst}
 use mathlib.Core.List.{List, _∷_}
-use Prim.Native.Nat.{ℕ, _+_, _*_, _≤_}
+use Prim.Native.Nat.{ℕ, suc, _+_, _*_}
 use native.Mathlib.Omega.{arith}
 use lib.ListN.{length}
 use lib.IntN.{ℤ}
 use lib.Signed.{_≤ℤ_, _<ℤ_}
-use Rattle.whole.specs.Zed.{_⊕_, P, N, zed, sum}
+use Rattle.whole.specs.Zed.{_⊕_, zed, sum, Within, within-of}
+use Rattle.walks.specs.Costs.{Costs}
 use Rattle.walks.specs.Hist.{Mark, At, at-here, at-there, Trail, begin, snoc, Low, Hist, Falls}
 
 -- what is low stays low
@@ -39,6 +40,9 @@ module _ {Arc : ℕ → ℕ → ℤ → Type 0} {o : ℕ} {D D′ : ℕ → ℤ 
       now x b (at-there i) = low-falls falls x b (t .low x b i)
 
 -- a label lies within its path length times the greatest cost
-pub trail-within : {Arc : ℕ → ℕ → ℤ → Type 0} {o v : ℕ} {d : ℤ} {h : List Mark} (B : ℕ) → ((u v : ℕ) (c : ℤ) → Arc u v c → P c + N c ≤ B) → Trail Arc o v d h → (P d ≤ length h * B + N d) × (N d ≤ length h * B + P d)
-trail-within B f (begin e) = omega (arith, zed)
-trail-within {d = r} B f (snoc {u} {v} {d} {c} t a e g) = omega (arith, zed, f u v c a, trail-within B f t, sum d c)
+pub trail-within : {Arc : ℕ → ℕ → ℤ → Type 0} {o v : ℕ} {d : ℤ} {h : List Mark} (B : ℕ) → Costs B Arc → Trail Arc o v d h → Within (length h * B) d
+trail-within B f (begin e) = rw e (omega arith)
+trail-within {d = r} B f (snoc {u} {v} {d} {c} {h} t a e g) =
+    let k : Within B c = f u v c a in
+    let l : Within (length h * B) d = trail-within B f t in
+    within-of (suc (length h) * B) r (omega (arith, zed, sum d c)) (omega (arith, zed, sum d c))

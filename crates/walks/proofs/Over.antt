@@ -1,18 +1,33 @@
--- Walks, least totals and closed walks below zero go by the arcs alone: two relations with the same arcs have the same. And an entry is one: of two least totals
--- neither is greater, and a least total has a walk.
+-- Walks, least totals and closed walks below zero go by the arcs alone: two relations with the same arcs have the same. And an index has one total: of two least
+-- ones neither is greater, and a least total has a walk. An entry is a total in its range.
 use mathlib.Core.Path.{_≡_, sym, _∙_}
 use mathlib.Core.Logic.{inl, inr}
-use Prim.Native.Nat.{ℕ}
+use Prim.Native.Nat.{ℕ, _^_}
 use lib.IntN.{ℤ}
-use Rattle.walks.specs.Walk.{Walk, stay, step, Least, NoNeg, NegativeFrom, Negative, Entry}
+use Rattle.whole.specs.Zed.{Within}
+use Rattle.walks.specs.Walk.{Walk, stay, step, Least, NoNeg, NegativeFrom, Negative, Entry, Total}
 use Rattle.walks.proofs.Walk.{least-unique}
 
--- an index has one entry
-pub entry-one : {Arc : ℕ → ℕ → ℤ → Type 0} {s v : ℕ} {d e : ℤ} → Entry Arc s v d → Entry Arc s v e → d ≡ e
-entry-one (inl a) (inl b) = least-unique a b
-entry-one {d} (inl a) (inr b) = absurd (b .1 d (a .walk))
-entry-one {e} (inr a) (inl b) = absurd (a .1 e (b .walk))
-entry-one (inr a) (inr b) = a .0 ∙ sym (b .0)
+module _ {Arc : ℕ → ℕ → ℤ → Type 0} {s v : ℕ} where
+  -- an index has one total
+  pub total-one : {d e : ℤ} → Total Arc s v d → Total Arc s v e → d ≡ e
+  total-one (inl a) (inl b) = least-unique a b
+  total-one {d} (inl a) (inr b) = absurd (b .1 d (a .walk))
+  total-one {e} (inr a) (inl b) = absurd (a .1 e (b .walk))
+  total-one (inr a) (inr b) = a .0 ∙ sym (b .0)
+
+  -- an entry is one, and a total whose range is known is an entry
+  pub total-of : {d : ℤ} → Entry Arc s v d → Total Arc s v d
+  total-of (inl l) = inl (l .0)
+  total-of (inr p) = inr p
+
+  pub entry-of : {d : ℤ} → (Least Arc s v d → Within (2 ^ 41) d) → Total Arc s v d → Entry Arc s v d
+  entry-of f (inl l) = inl (l, f l)
+  entry-of f (inr p) = inr p
+
+  -- so an index has one entry
+  pub entry-one : {d e : ℤ} → Entry Arc s v d → Entry Arc s v e → d ≡ e
+  entry-one a b = total-one (total-of a) (total-of b)
 
 -- by more arcs
 module _ {A B : ℕ → ℕ → ℤ → Type 0} (f : (u v : ℕ) (c : ℤ) → A u v c → B u v c) where
@@ -39,7 +54,11 @@ module _ {A B : ℕ → ℕ → ℤ → Type 0} (f : (u v : ℕ) (c : ℤ) → A
   pub noneg-over : {o : ℕ} → NoNeg A o → NoNeg B o
   noneg-over n x a t r w = n x a t (walk-over b r) (walk-over b w)
 
-  -- an entry
+  -- a total, and an entry
+  pub total-over : {o v : ℕ} {d : ℤ} → Total A o v d → Total B o v d
+  total-over (inl l) = inl (least-over l)
+  total-over (inr p) = inr (p .0, λ t w. p .1 t (walk-over b w))
+
   pub entry-over : {o v : ℕ} {d : ℤ} → Entry A o v d → Entry B o v d
-  entry-over (inl l) = inl (least-over l)
+  entry-over (inl l) = inl (least-over (l .0), l .1)
   entry-over (inr p) = inr (p .0, λ t w. p .1 t (walk-over b w))

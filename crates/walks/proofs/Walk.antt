@@ -2,12 +2,13 @@
 -- So a walk without repeats has fewer arcs than there are indices (Pigeon), and its total lies within that many times the greatest cost.
 use mathlib.Core.Path.{_≡_, refl, sym, ap, subst}
 use mathlib.Core.List.{List, [], _∷_}
-use Prim.Native.Nat.{ℕ, suc, _+_, _*_, _≤_, _<_}
+use Prim.Native.Nat.{ℕ, suc, _+_, _*_, _<_}
 use native.Mathlib.Omega.{arith}
 use lib.ListN.{length}
 use lib.IntN.{ℤ, pos}
 use lib.Signed.{_≤ℤ_, _<ℤ_}
-use Rattle.whole.specs.Zed.{_⊕_, P, N, zed, sum}
+use Rattle.whole.specs.Zed.{_⊕_, zed, sum, Within, within-of}
+use Rattle.walks.specs.Costs.{Costs}
 use Rattle.walks.specs.Pigeon.{In, here, there, NoDup}
 use Rattle.walks.specs.Walk.{Walk, stay, step, Least, NoNeg, NegativeFrom, Negative}
 use Rattle.walks.proofs.Pigeon.{short}
@@ -85,9 +86,12 @@ module _ {Arc : ℕ → ℕ → ℤ → Type 0} where
   few ps f i w n = omega (arith, verts-length w, short (verts w) ps n (among ps f i w))
 
   -- the total of a walk, if every cost lies in -B ..= B
-  pub bounded : {u v : ℕ} {t : ℤ} (B : ℕ) → ((u v : ℕ) (c : ℤ) → Arc u v c → P c + N c ≤ B) → (w : Walk Arc u v t) → (P t ≤ arcs w * B + N t) × (N t ≤ arcs w * B + P t)
-  bounded {t} B f (stay e) = omega (arith, zed)
-  bounded {t = r} B f (step {u} {v} {c} {t} a w e) = omega (arith, zed, f u v c a, bounded B f w, sum c t)
+  pub bounded : {u v : ℕ} {t : ℤ} (B : ℕ) → Costs B Arc → (w : Walk Arc u v t) → Within (arcs w * B) t
+  bounded {t} B f (stay e) = rw e (omega arith)
+  bounded {t = r} B f (step {u} {v} {c} {t} a w e) =
+      let k : Within B c = f u v c a in
+      let l : Within (arcs w * B) t = bounded B f w in
+      within-of (suc (arcs w) * B) r (omega (arith, zed, sum c t)) (omega (arith, zed, sum c t))
 
 -- a closed walk below zero in reach, and none
 pub not-both : {Arc : ℕ → ℕ → ℤ → Type 0} {s : ℕ} → NegativeFrom Arc s → NoNeg Arc s → ⊥

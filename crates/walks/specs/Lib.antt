@@ -1,7 +1,7 @@
 pub mod Walk
 pub mod Pigeon
 pub mod Hist
-pub mod Near
+pub mod Costs
 pub mod Shift
 pub mod Weigh
 pub mod Chain

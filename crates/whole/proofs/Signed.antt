@@ -3,7 +3,7 @@
 use mathlib.Core.Path.{_≡_, refl, sym, subst, _∙_}
 use mathlib.Core.Bool.{Bool, true, false, true≢false}
 use mathlib.Core.List.{List}
-use Prim.Native.Nat.{ℕ, _+_, _≤_, _<_, _^_}
+use Prim.Native.Nat.{ℕ, _<_, _^_}
 use native.Mathlib.Omega.{arith}
 use borrow.Author.Tests.{ltb-false, ltb-true, le-ltb}
 use lib.IntN.{ℤ, pos, negsuc}
@@ -12,7 +12,7 @@ use lib.Signed.{mag, ltZ, _≤ℤ_, _<ℤ_}
 use mir.Syntax.{w64}
 use mir.Val.{SFits, toZ, ofZ}
 use mir.ValLaws.{toZ-ofZ}
-use Rattle.whole.specs.Zed.{_⊕_, P, N, zed}
+use Rattle.whole.specs.Zed.{_⊕_, zed, Within}
 
 -- ---- the order of whole numbers, as a test
 pub ltZ-asym : (a b : ℤ) → ltZ a b ≡ true → ltZ b a ≡ false
@@ -60,8 +60,8 @@ pub look-ge : {a b x y : ℤ} {r : Bool} → x ≡ a → y ≡ b → r ≡ ltZ x
 look-ge {a} {b} {x} {y} p q e t = let k : ltZ x y ≡ false = sym e ∙ t in omega (arith, zed)
 
 -- ---- what `plus` asks and answers, of the numbers whose bits it is given
-pub near : {d c : ℤ} → SFits w64 d → SFits w64 c → P d + N d ≤ 2 ^ 60 → P c + N c ≤ 2 ^ 60
-    → (P (toZ w64 (ofZ w64 d)) + N (toZ w64 (ofZ w64 d)) ≤ 2 ^ 60) × (P (toZ w64 (ofZ w64 c)) + N (toZ w64 (ofZ w64 c)) ≤ 2 ^ 60)
+pub near : {d c : ℤ} → SFits w64 d → SFits w64 c → Within (2 ^ 60) d → Within (2 ^ 60) c
+    → Within (2 ^ 60) (toZ w64 (ofZ w64 d)) × Within (2 ^ 60) (toZ w64 (ofZ w64 c))
 near {d} {c} f g p q = (rw (toZ-ofZ w64 d f) p, rw (toZ-ofZ w64 c g) q)
 
 pub sum-is : {d c s : ℤ} → SFits w64 d → SFits w64 c → s ≡ toZ w64 (ofZ w64 d) ⊕ toZ w64 (ofZ w64 c) → SFits w64 s → toZ w64 (ofZ w64 s) ≡ d ⊕ c

@@ -18,7 +18,7 @@ a ⊕ b = a +ℤ b
 abbrev pub _⊖_ : ℤ → ℤ → ℤ
 a ⊖ b = a -ℤ b
 
--- the positive and the negative part
+-- the positive and the negative part, of which one is 0
 abbrev pub P : ℤ → ℕ
 P (pos n) = n
 P (negsuc n) = 0
@@ -94,8 +94,22 @@ neg (pos zero) = refl
 neg (pos (suc n)) = omega arith
 neg (negsuc n) = omega arith
 
--- ---- ranges: -k ≤ z < k, as bounds on differences
-both : (z : ℤ) {k : ℕ} → mag z < k → P z + N z ≤ k
+-- ---- ranges
+-- z lies in -b ..= b: one of its parts is 0, the other at most b
+abbrev pub Within : ℕ → ℤ → Type 0
+Within b z = P z + N z ≤ b
+
+-- so a cost does that an i32 holds, with b 2^31
+abbrev pub Cost32 : ℤ → Type 0
+Cost32 c = Within (2 ^ 31) c
+
+-- z lies there if neither part passes the other by more
+pub within-of : (b : ℕ) (z : ℤ) → P z ≤ b + N z → N z ≤ b + P z → Within b z
+within-of b (pos n) h k = omega arith
+within-of b (negsuc n) h k = omega arith
+
+-- -k ≤ z < k, as bounds on differences
+both : (z : ℤ) {k : ℕ} → mag z < k → Within k z
 both (pos n) h = omega arith
 both (negsuc n) h = omega arith
 
@@ -104,15 +118,11 @@ in-range (pos n) h = omega arith
 in-range (negsuc n) h = omega arith
 
 -- (one rule serves a hypothesis, so this is one statement; it loses that z is not 2 ^ (w - 1) itself)
-pub fits-in : (w : Width) (z : ℤ) → SFits w z → P z + N z ≤ 2 ^ hbits w
+pub fits-in : (w : Width) (z : ℤ) → SFits w z → Within (2 ^ hbits w) z
 fits-in w z f = both z (f .sfits)
 
 pub fits-out : (w : Width) (z : ℤ) → max (suc (P z) - N z) (N z - P z) ≤ 2 ^ hbits w → SFits w z
 fits-out w z h = record { sfits = in-range z h }
-
--- z lies in -b ..= b, as ℤ's own order has it, and as one statement
-unfoldable pub Within : ℕ → ℤ → Type 0
-Within b z = (negℤ (pos b) ≤ℤ z) × (z ≤ℤ pos b)
 
 -- ---- what a test of the code leaves: an equation of its flag
 test : (b c : Bool) → b ≡ c → T c → T b

@@ -1,12 +1,12 @@
 // Signed numbers: a sum that fits, an i32 as an i64, and a comparison, each as a statement on whole numbers.
 ghost use mathlib.Core.Path.{_≡_};
-ghost use Prim.Native.Nat.{_^_, _+_, _≤_};
+ghost use Prim.Native.Nat.{_^_};
 ghost use lib.Signed.{ltZ};
-ghost use Rattle.whole.specs.Zed.{_⊕_, P, N};
+ghost use Rattle.whole.specs.Zed.{_⊕_, Within};
 
 // A distance and a cost, added: neither is farther from 0 than 2^60, so the sum fits.
 pub fn plus(d: i64, c: i64) -> i64
-    requires { ⌜ (P d + N d ≤ 2 ^ 60) × (P c + N c ≤ 2 ^ 60) ⌝ }
+    requires { ⌜ Within (2 ^ 60) d × Within (2 ^ 60) c ⌝ }
     ensures { λ r. ⌜ r ≡ d ⊕ c ⌝ }
 {
     d + c

@@ -25,7 +25,8 @@ search-requires c κs =
 returns : tie.Need-returns
 returns c =
     let n = c .before .before .before .before .before .before .before .before .before .before .before .before .before .before .before in
-    solved-of (n .before .before .before .before .before .before .before .before .before .before .before .before .before .before .before .before .before .before .pre) (n .before .before .before .before .before .before .position-csr .ensures .0) (c .before .before .before .before .before .before .before .search .ensures)
+    let r = n .before .before .before .before .before .before .position-csr .ensures in
+    solved-of (n .before .before .before .before .before .before .before .before .before .before .before .before .before .before .before .before .before .before .pre) (r .0) (r .1) (c .before .before .before .before .before .before .before .search .ensures)
 
 pub solve-spec : {M : Type 1} → statement M
 solve-spec =
