@@ -268,8 +268,10 @@ size_t dimetumble_hops_f64(
 /* Checks a page of distances that another program gives. *yes becomes 1 exactly when the source has 0, no arc leads from
  * an index with a distance to one with none or with more than distance plus cost, each other index with a distance has
  * an arc into it, from an index with a distance, that meets it exactly, and every distance is within -2^42 ..= 2^42;
- * else 0. The distances of dimetumble_bellman_ford get a yes. Beware of loops that total 0: around one, distances can
- * meet each other without a walk from the source.
+ * else 0. The distances that dimetumble_bellman_ford gives with 0 from a source that the map has get a yes.
+ * The rule is local, and a yes does not say that the distances are the least totals: around a loop that totals 0 they can
+ * meet each other without a walk from the source. On the directed links 1 to 2 and 2 to 1 of cost 0, with source 0, the
+ * page 0, 7, 7 gets a yes.
  * Gives 0, 1, 2 or 3; after a refusal *yes is 0.
  * page: bound entries. No scratch. */
 size_t dimetumble_page(

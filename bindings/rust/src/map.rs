@@ -401,8 +401,11 @@ impl Map {
 
     /// Are these the distances that the arcs allow? Yes exactly when the source has 0, no arc leads from an index with a distance to one with
     /// none or with more than distance plus cost, each other index with a distance has an arc into it, from an index with a distance, that
-    /// meets it exactly, and every distance is within -2^42 ..= 2^42. What [`bellman_ford`](Map::bellman_ford) gives gets a yes. Around a loop
-    /// that totals 0 distances can meet each other without a walk from the source.
+    /// meets it exactly, and every distance is within -2^42 ..= 2^42. What [`bellman_ford`](Map::bellman_ford) gives from a source that the map
+    /// has gets a yes.
+    ///
+    /// The rule is local, and a yes does not say that the distances are the least totals: around a loop that totals 0 they can meet each
+    /// other without a walk from the source.
     ///
     /// [`Refusal::NoSource`]. The page is asked once for each index below the bound; an absent index must have none.
     ///
@@ -413,6 +416,11 @@ impl Map {
     /// let mut work = Workspace::new();
     /// assert!(map.page(0, |v| [Some(0), Some(5), None][v], &mut work)?);
     /// assert!(!map.page(0, |v| [Some(0), Some(4), None][v], &mut work)?);
+    ///
+    /// let mut looped = Map::new(3, true)?;
+    /// looped.put(1, 2, 0)?;
+    /// looped.put(2, 1, 0)?;
+    /// assert!(looped.page(0, |v| [Some(0), Some(7), Some(7)][v], &mut work)?);
     /// # Ok::<(), Refusal>(())
     /// ```
     pub fn page(&self, source: usize, mut page: impl FnMut(usize) -> Option<i64>, work: &mut Workspace) -> Result<bool, Refusal> {
