@@ -112,7 +112,7 @@ module _ (m n : ℕ) (d : Bool) (marks xs ys : List ℕ) (cs : List ℤ) {s : Li
   pub can-list : (Ready m n xs ys × (n ≤ length cs)) × rows.Room A m s
   can-list = (ready, room)
 
-  -- nothing is written where the answer is 7
+  -- where the answer is 7 no list is made: offsets, heads and weights are as they were, potentials were written
   pub prepared-yes : {h′ h″ : List ℤ} {p : ℕ} {r : Bool} → h′ ≡ filled m (pos 0) h → Answered (tableOf d xs ys cs) n p h′ h″ r → r ≡ true → Prepared g s s h″ true
   prepared-yes e a f = record {
     long = a .long ∙ (ap length e ∙ (filled-length m (pos 0) h (omega (arith, ripe .heights)) ∙ ripe .heights));

@@ -1,4 +1,4 @@
--- The pending bag with one place per index, as a heap over lent memory gives it. A turn is said without an order of arcs: the arcs are a relation.
+-- The pending bag with one place per index, as the bag over lent memory keeps it. A turn is said without an order of arcs: the arcs are a relation.
 use mathlib.Core.Path.{_≡_}
 use mathlib.Core.Bool.{Bool, true, false}
 use mathlib.Core.Option.{Option, none, some}
