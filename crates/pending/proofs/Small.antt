@@ -1,4 +1,4 @@
--- The bag of document 01 on its small maps, by computation.
+-- The bag of document 01 on its small maps that ask a search (S2, S3, S4, S7, S8), by computation.
 use mathlib.Core.Path.{_≡_, refl}
 use mathlib.Core.List.{List, [], _∷_}
 use mathlib.Core.Option.{Option, none, some}

@@ -1,4 +1,6 @@
--- The small maps S1 to S9: what their few arcs allow, and so what every engine gives.
+-- The small maps S1 to S9: what their few arcs allow, and so what the questions that 01 names for each map give.
+-- 6 and 7 are shown by an arc or a closed walk below zero that is written down. Distances are shown by taking every walk apart: in S3 no arc is below zero, in S4 none
+-- leaves index 2, in S6 a walk from 0 stays or goes to 1. S7 and S8 are the bag by computation (a_star, Small), S9 the puts by computation (table, Small).
 -- Assumes nothing.
 use mathlib.Core.Path.{_≡_, refl, sym, subst}
 use mathlib.Core.Bool.{Bool, true, false}

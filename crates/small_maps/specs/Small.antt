@@ -1,4 +1,5 @@
--- The small maps S1 to S9, as one statement over what the engines promise: whatever buffers are lent, if they are long enough, and whatever the promise allows.
+-- The small maps S1 to S9, as one statement. S1 to S8 are over what the questions promise, those that 01 names for each map: whatever buffers are lent, if they are
+-- long enough, and whatever the promise allows. S9 is over what two puts leave of an empty table with room for two links.
 -- Assumes nothing.
 use mathlib.Core.Path.{_≡_}
 use mathlib.Core.Bool.{Bool, true, false}
