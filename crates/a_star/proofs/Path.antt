@@ -1,4 +1,8 @@
 -- The laws of a path by predecessors: one arc back, its length, how it is written, and that it is the chain of the pending bag.
+-- A trail goes back by the list of predecessors: it is the source alone, or the trail to the predecessor and then the index. So it has at most one index more than
+-- arcs, and to write it is to write one index behind another. Where the pending bag has a chain back to the source with no more arcs than may be gone back, the
+-- predecessors lead back along it, and the trail is the chain turned round. There is one chain from an index, for an index has one predecessor; turned round it is a
+-- path of arcs, and a list turned round has an index twice only if it had.
 -- Assumes nothing.
 use mathlib.Core.Path.{_≡_, refl, sym, ap, _∙_, subst}
 use mathlib.Core.Bool.{Bool, true, false}

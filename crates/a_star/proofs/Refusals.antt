@@ -1,4 +1,7 @@
 -- The refusals: what the tests of the code say in their order, what a refusal leaves, and what holds where there is none.
+-- The two tests of one heuristic are its range; all below m are fair exactly if each index of the map is, by induction on m. Each way through the code ends at the
+-- first test that fails, those before it having passed, and there `refusalNo` computes to the number that is returned. So a number other than 0 is one of the
+-- promise's cases, each of which leaves every buffer, and 0 says that no test failed, which is `Fine`.
 -- Assumes nothing.
 use mathlib.Core.Path.{_≡_, refl, sym, ap, _∙_, subst}
 use mathlib.Core.Bool.{Bool, true, false, _&&_}

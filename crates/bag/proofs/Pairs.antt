@@ -1,3 +1,6 @@
+-- A take clears the word of the index that it gives: the others keep word and key, so the rest is a bag with one less, and its content is the one before without
+-- that pair. A push stores v's word and key: the others keep theirs, v's word grows (a key that is lowered has a larger word), and there is one more exactly if v
+-- was out.
 -- What a push and a take make of a bag, once for every kind of key: the content, how many there are, and the words.
 -- Assumes nothing.
 use mathlib.Core.Path.{_≡_, sym, ap, subst, _∙_}

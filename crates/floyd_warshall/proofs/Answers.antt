@@ -1,4 +1,7 @@
 -- From what the parts gave to the answer: the map solved, and the promise.
+-- The entries that the rounds begin with are those of the map's arcs (Filled). So a diagonal entry below zero, before the rounds or in one, is a closed walk below
+-- zero; and where all rounds are done without one, an entry below 2^49 is the least total, any other has no walk and is shown as none, and there is no closed walk
+-- below zero (Totals). The part of the matrix that was worked on is put back in front of the rest, which was never touched, and the ranks are wiped.
 -- Assumes nothing.
 use mathlib.Core.Path.{_≡_, refl, sym, ap, _∙_, subst}
 use mathlib.Core.Bool.{Bool, true, false}

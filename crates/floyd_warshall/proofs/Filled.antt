@@ -1,4 +1,7 @@
 -- The matrix of a sound map before the rounds: what `Totals` asks of it, and what the rounds ask.
+-- Rows are the present indices in rising order, and `ranks` leads from an index to its row and back. An entry is 0 on the diagonal, or 2^50, or the cost of an arc
+-- between the indices of its row and column, and it is no more than the cost of any such arc (Poured). So each entry but 2^50 is the total of a walk, of no arcs or
+-- of one, and all lie in -2^50 ..= 2^50.
 -- Assumes nothing.
 use mathlib.Core.Path.{_≡_, sym, ap, _∙_, subst}
 use mathlib.Core.Bool.{Bool, true}

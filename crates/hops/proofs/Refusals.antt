@@ -1,4 +1,7 @@
 -- The refusals 1 and 2 as facts, for a map of any kind.
+-- Each way through the code ends at the first test that fails, those before it having passed, and there `longEnough` and `refusalNo` compute to what is returned. So
+-- a number other than 0 is one of the promise's cases, each of which leaves every buffer, and 0 says that the map keeps the limits, every slice is long enough and
+-- the links are inside.
 -- Assumes nothing.
 use mathlib.Core.Path.{_≡_, refl, _∙_}
 use mathlib.Core.Bool.{Bool, true, false}

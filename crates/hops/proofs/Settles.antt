@@ -1,4 +1,7 @@
 -- The promise settles the answer and each buffer, and goes by the ends of the arcs alone: the costs, and the kind of the map, have no influence.
+-- Two least numbers of arcs between the same indices are equal, so two matrices are, entry by entry, and the rest is by the cases of the promise. With each arc at
+-- the cost 1 a number of arcs is a total, and a least total has fewer arcs than there are indices: so no number of hops is none. Maps of any two kinds whose arcs
+-- have the same ends have the same steps between indices, and so one promise.
 -- Assumes nothing.
 use mathlib.Core.Path.{_≡_, refl, sym, ap, _∙_, subst}
 use mathlib.Core.Bool.{Bool, true, false, _&&_}

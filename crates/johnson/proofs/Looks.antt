@@ -1,4 +1,7 @@
 -- Looks at arcs, links and rounds: potentials only fall, each round reaches over every arc, each potential is the total of a walk, and none falls too far.
+-- A look at an arc stores the potential of its tail and its cost where that is less, and else nothing: whatever holds in both cases holds after it (`by-look`). So
+-- no potential rises, that of the head is at most the sum, a walk to the tail and the arc are the walk to the head, and one look falls by one greatest cost at most.
+-- A link is one look, or two if undirected (`by-link`).
 -- Assumes nothing.
 use mathlib.Core.Path.{_≡_, refl, sym, ap, _∙_, subst}
 use mathlib.Core.Bool.{Bool, true, false}

@@ -1,4 +1,7 @@
 -- What the proofs of the shifting functions cite, and that the arcs of the shifted list are the shifted arcs.
+-- Rows do not overlap, so a place belongs to one row, and the store at it is the shift by the potentials of that row's index and of the head there. The weights
+-- before a place are shifted and those from it on are as they were, row after row; so in the end each arc of the list is one of the list before, with its cost
+-- shifted, and each of those is there.
 -- Assumes nothing.
 use mathlib.Core.Path.{_≡_, refl, sym, ap, _∙_, subst}
 use mathlib.Core.List.{List}

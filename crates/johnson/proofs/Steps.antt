@@ -1,4 +1,7 @@
 -- What the functions' proofs cite: a look at a link, the turns of a round, of the rounds and of the test.
+-- Each loop keeps that the potentials are those that the definition makes of the first ones (`swept`, `rounds`), and how far they may have fallen: by two greatest
+-- costs for a link, 16,384 for a round, so no sum overflows in 1,024 rounds. A round in which nothing fell left the potentials as they were, and no arc lowers one:
+-- then the rounds may stop. The test goes on while no arc lowers a potential.
 -- Assumes nothing.
 use mathlib.Core.Path.{_≡_, refl, sym, ap, _∙_, subst}
 use mathlib.Core.Bool.{Bool, true, false}

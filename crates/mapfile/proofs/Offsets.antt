@@ -1,4 +1,6 @@
 -- Where a map file breaks a rule, kind of break by kind of break: small files over tables for two indices and one link, by computation.
+-- Each case is a file with the stage and the offset at which its walk has to end. The lists of cases go over 01's rules one after another, and one equation says
+-- that the walk of every file ends as its case says: both sides compute to the same list.
 -- Assumes nothing.
 use mathlib.Core.Path.{_≡_, refl}
 use mathlib.Core.List.{List, [], _∷_, _++_, map}

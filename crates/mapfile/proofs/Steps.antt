@@ -1,4 +1,7 @@
 -- What a record makes of the state, case by case: each law is one way through the code.
+-- A step is a tree of tests over the stage of the walk, the kind of the map and the record's fields. A law fixes the tests on one way through it, and there the step
+-- computes to what the code leaves: the walk broken at this record, or the state with the record taken and the walk moved on. A link that may stand here is put, and
+-- the number of the put decides.
 -- Assumes nothing.
 use mathlib.Core.Path.{_≡_, sym, ap, _∙_}
 use mathlib.Core.Bool.{Bool, true, false, not}

@@ -1,4 +1,7 @@
 -- The indices for which a test holds in rising order, and the place of each among them; then those that a map has.
+-- The list is made from below: one index more is put at its end, or nothing. So the place of an index is how many come before it, by induction on the bound; the
+-- index at a place has that place, hence two places hold different indices; and the members are exactly the indices below the bound for which the test holds. A
+-- map's nodes are the case where the test is presence.
 -- Assumes nothing.
 use mathlib.Core.Path.{_≡_, refl, sym, ap, _∙_, subst}
 use mathlib.Core.Bool.{Bool, true, false, cond}

@@ -1,4 +1,7 @@
 -- The promise of the page check settles the answer, and goes by the arcs alone.
+-- A case of the promise says which tests passed before it, and yes and no exclude each other: a page is right or it is not. Each number, and yes, is given exactly
+-- on its condition, case by case. No arc leads to an index that the map has not, so a page with a distance there is wrong. Maps with the same arcs call the same
+-- pages right.
 -- Assumes nothing.
 use mathlib.Core.Path.{_≡_, sym, ap, _∙_, subst}
 use mathlib.Core.Bool.{Bool, true, false}

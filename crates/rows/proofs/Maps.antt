@@ -1,4 +1,7 @@
 -- The neighbour list of a lent map that is not refused: its arcs are the map's, it fits a search, and it leaves what is past the need as it was.
+-- A map that is not refused has its ends below m and slices as long as the count: so the list may be made, and n links have at most n arcs if directed and 2n if
+-- not, which the need covers. The rows hold exactly the arcs that leave their index (Members): those of the map for costs, the open ones for an f64 map, and those
+-- of any cost where costs are left out.
 -- Assumes nothing.
 use mathlib.Core.Path.{_≡_, refl, sym, ap, _∙_, subst}
 use mathlib.Core.Bool.{Bool, true, false, cond, not}

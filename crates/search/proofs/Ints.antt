@@ -1,4 +1,7 @@
 -- The integer search keeps the laws of its kind, and its keys are in range.
+-- Distances are not below zero, so none (-2^63) stands for no distance only, and the code's two tests are the bag's "none there, or strictly smaller". A key is a
+-- distance and a heuristic: for one index a smaller distance has no greater key. A distance is at most `far` and a cost at most `dear`, a heuristic lies within
+-- 2^42: so the sums fit 64 bits and the keys the range of the bag.
 -- Assumes nothing.
 use mathlib.Core.Path.{_≡_, refl, sym, ap, _∙_}
 use mathlib.Core.Bool.{Bool, true, false, cond}

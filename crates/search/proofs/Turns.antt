@@ -1,4 +1,6 @@
 -- The loop over the bag, beside what every search keeps: no cost is above `dear`, so no distance is above `far`, and each turn lowers what is left to do.
+-- A distance came by fewer arcs than there are indices, each of at most `dear`: so it is at most `far` (pending, Bound), and every sum and key of a row is in range.
+-- Each turn gives an index its first distance, or lowers one, or takes a pending index out: `toDo` falls, and bounds the number of takes.
 -- Assumes nothing.
 use mathlib.Core.Path.{_≡_, sym, _∙_, subst}
 use mathlib.Core.Bool.{Bool, true, false}

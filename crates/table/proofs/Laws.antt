@@ -1,4 +1,8 @@
 -- What the proofs of the table's functions cite: the lent slices side by side, the room, and the tests of the table as facts.
+-- The slices side by side are a list of links, place by place; the check and the search look at the ends alone, so they give the same for a list with costs. The
+-- loop of the check keeps that the links before place i are inside; one that is not ends it. The number of the check, and the place that a put finds, are trees of
+-- tests: each law fixes the tests on one way through the code, and there the definition computes to what is returned. A search ends in one of three ways, refused,
+-- at the place of its link, or at the end (`Found`).
 -- Assumes nothing.
 use mathlib.Core.Path.{_≡_, refl, sym, ap, _∙_}
 use mathlib.Core.Bool.{Bool, true, false, cond, not, _&&_}

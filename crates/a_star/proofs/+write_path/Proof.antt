@@ -1,4 +1,7 @@
 -- The proof of the cycle of calls {write_path}. The measure is how many arcs may still go back.
+-- `GoesBack` says that the source is met within that many arcs: so an index that is not the source has an arc left, and its predecessor goes back with one less. At
+-- the source one index is written. Else the call for the predecessor writes the trail to it and gives its length, and the index is written behind it: the trail to
+-- an index is the trail to its predecessor with the index at its end (Path). A trail has at most one index more than arcs, so the path has room.
 -- Assumes nothing.
 use mathlib.Core.Path.{sym, ap, _∙_}
 use mathlib.Core.List.{List, [], _∷_}

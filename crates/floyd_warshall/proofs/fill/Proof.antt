@@ -1,4 +1,6 @@
 -- `floyd_warshall::fill` meets its contract. Before each turn, pouring the links that are left gives what pouring all gave at first.
+-- The link of a turn has present ends, since the map is not refused, so both have a row in the matrix (`link-at`), and the two entries that it may lower lie within
+-- it. Its cost was read from an i32, which bounds it; the bounds of the costs read so far are collected as they are read.
 -- Assumes nothing.
 use mathlib.Core.Path.{refl, _∙_}
 use Prim.Native.Nat.{_-_, _≤_, _<_}

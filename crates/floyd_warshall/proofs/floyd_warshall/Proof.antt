@@ -1,4 +1,6 @@
--- `floyd_warshall::floyd_warshall` keeps its promise.
+-- `floyd_warshall::floyd_warshall` keeps its promise: each answer is a law of proofs/Answers.antt, at what the calls gave.
+-- A refusal returns before the first write. Past it p is counted and the ranks are set; the first p * p entries of the matrix are lent to `solve` as a part of their
+-- own and come back in front of the rest. Then the ranks are wiped, and after a yes the entries are blanked.
 -- Assumes nothing.
 use mathlib.Core.Path.{_≡_, refl, sym, _∙_, subst}
 use mathlib.Core.List.{List}

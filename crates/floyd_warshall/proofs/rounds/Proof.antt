@@ -1,4 +1,7 @@
 -- `floyd_warshall::rounds` meets its contract. Each loop has as its invariant the record of proofs/Turns.antt for its turn.
+-- The entries are at every moment those of the rounds done, in the rows and columns done one round more; the laws of Turns take one column, row or round to the
+-- next. No diagonal entry was below zero so far, hence every entry is small and no sum overflows (Triangle). The loops end with all rounds done, or with a diagonal
+-- entry that a round made negative.
 -- Assumes nothing.
 use mathlib.Core.Path.{_≡_, refl, sym, _∙_, subst}
 use mathlib.Core.Bool.{false}

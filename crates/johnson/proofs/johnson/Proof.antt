@@ -1,4 +1,6 @@
--- `johnson::johnson` meets its contract.
+-- `johnson::johnson` meets its contract: each answer is a law of proofs/Answers.antt, at what the calls gave.
+-- A refusal returns before the first write. Past it p and the room of the arcs are computed, the map is solved, and the scratch is wiped whatever the answer is;
+-- after a yes the matrix is blanked.
 -- Assumes nothing.
 use borrow.Author.Needs.{needs}
 use Rattle.johnson.proofs.johnson.Statement.{statement}

@@ -1,4 +1,6 @@
 -- `search::look_arc` meets its contract.
+-- The sum is that of whole numbers, since both parts are small, and the test is the bag's. Where the total is no better nothing changes. Else distance, predecessor
+-- and key are stored one after another: the key is that of the new total, not above a key that is pending for v, so the bag may take it.
 -- Assumes nothing.
 use mathlib.Core.Path.{_≡_, refl, sym, ap, subst, _∙_}
 use mathlib.Core.Option.{some}

@@ -1,4 +1,6 @@
 -- `search::look_row` meets its contract.
+-- The loop's invariant is the record `Row` of turns: the arcs before place i are looked at, and what the lists say is what the pending bag makes of them, the
+-- distance of u being the one read first. A cost below zero stops the row; any other arc is one look more; at the end of the row the turn is done.
 -- Assumes nothing.
 use borrow.Author.Needs.{needs, sfits-of}
 use mathlib.Core.Path.{refl, sym, _∙_}

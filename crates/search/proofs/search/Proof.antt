@@ -1,4 +1,6 @@
 -- `search::search` meets its contract.
+-- The loop's invariant is `Head` (Turns): whatever the pending bag ends in from here it ends in from its start. A take gives the least pair; if that is the target's
+-- the search is over, else its row is one turn. The measure is what is left to do, which falls with each turn; when nothing is pending the bag is at its end.
 -- Assumes nothing.
 use mathlib.Core.Path.{refl, sym, subst, _∙_}
 use Prim.Native.Nat.{ℕ, _<_}

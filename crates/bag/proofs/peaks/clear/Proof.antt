@@ -1,3 +1,6 @@
+-- Clearing a word can lower the largest of its block of 8, and so on up. The three entries above the word are each made anew from the eight below it, lowest first,
+-- so that each is made of entries that are right already; no other block has the word in it (`peaks-cleared`). Every place lies within its list, for there are at
+-- most 1,024 words.
 -- `bag::peaks::clear` meets its contract. Assumes nothing.
 use mathlib.Core.Path.{refl}
 use native.Mathlib.Omega.{arith}
