@@ -2,12 +2,6 @@
 -- Assumes nothing.
 use Rattle.bellman_ford.proofs.search.Statement.{statement}
 use Rattle.bellman_ford.proofs.search.Tie as tie
-use Rattle.bellman_ford.proofs.search.Reads as reads
-use Rattle.bellman_ford.proofs.search.Lts as lts
-use Rattle.bellman_ford.proofs.push.Reads as push-reads
-use Rattle.bellman_ford.proofs.relax_row.Reads as relax-row-reads
-use Rattle.bellman_ford.proofs.slot.Reads as slot-reads
-use Rattle.bellman_ford.proofs.store.Reads as store-reads
 use Prim.Native.Nat.{_<_}
 use native.Mathlib.Omega.{arith}
 use borrow.Author.Needs.{needs}
@@ -23,24 +17,45 @@ abbrev μ-loop : tie.MeasureT-loop
 μ-loop m p source offsets heads weights dist₀ queue₀ queued₀ lengths₀ size₀ head₀ dist queue queued lengths size head = toDo (memoryOf dist queue queued lengths) size
 
 -- the first place of the ring, and what waits there
-module _ (c : lts.In-loop (store-reads.Asked, store-reads.Learnt, push-reads.Asked, push-reads.Learnt, slot-reads.Asked, slot-reads.Learnt, relax-row-reads.Asked, relax-row-reads.Learnt) reads.Pre reads.Post Inv-loop μ-loop) where
+module _ (c : tie.In-loop Inv-loop μ-loop) where
   in-queue : c .before .loop .head < length (c .before .loop .queue)
   in-queue = let r = c .before .loop .inv .calm .held .ring in omega (arith, r .first, r .roomQ)
 
   in-queued : getD (c .before .loop .queue) (c .before .loop .head) 0 < length (c .before .loop .queued)
   in-queued = omega (arith, turn-below (c .before .loop .inv) (c .loop-test .taken), c .before .loop .inv .calm .held .ring .roomD)
 
+-- what came before the loop
+module _ (h : tie.At-loop Inv-loop μ-loop) where
+  abbrev pushed : tie.After-push Inv-loop μ-loop
+  pushed = h .before .before .before .before .before
+
+  abbrev stored : tie.After-store Inv-loop μ-loop
+  stored = pushed .before .before .before .before
+
+  abbrev start : tie.Start Inv-loop μ-loop
+  start = stored .before .before .before .before .before .before .before
+
+-- a row is looked through, in a turn of the loop
+module _ (r : tie.After-relax-row Inv-loop μ-loop) where
+  abbrev turn : tie.In-loop Inv-loop μ-loop
+  turn = r .before .before .before .before .before .before .before
+
 store-requires : tie.Need-store-requires Inv-loop μ-loop
-store-requires c κs = omega (arith, c .before .before .before .before .before .before .pre .0 .below, c .before .before .before .before .before .before .pre .1 .wide .dist)
+store-requires c κs = let s = c .before .before .before .before .before .before in omega (arith, s .pre .0 .below, s .pre .1 .wide .dist)
 
 push-requires : tie.Need-push-requires Inv-loop μ-loop
 push-requires c κs =
-    let f = c .before .before .before .before .before .before .before .before .before .before .pre .0 in
-    let w = c .before .before .before .before .before .before .before .before .before .before .pre .1 .wide in
+    let s = c .before .before .before .before .before .before .before .before .before .before in
+    let f = s .pre .0 in
+    let w = s .pre .1 .wide in
     (f .sound .bounded, omega (arith, f .below), omega arith, f .below, w .queue, w .queued)
 
 loop-holds : tie.Need-loop-holds Inv-loop μ-loop
-loop-holds c = turn-first (c .before .before .before .before .before .before .before .before .before .before .before .before .before .before .before .pre .0) (c .before .before .before .before .before .before .before .before .before .before .before .before .before .before .before .pre .1) (c .before .before .before .before .before .before .before .before .store .ensures) (c .before .before .before .before .push .ensures) .0
+loop-holds c =
+    let p = c .before .before .before .before in
+    let k = p .before .before .before .before in
+    let s = k .before .before .before .before .before .before .before in
+    turn-first (s .pre .0) (s .pre .1) (k .store .ensures) (p .push .ensures) .0
 
 mul-u : tie.Need-mul-u Inv-loop μ-loop
 mul-u c = let h = in-queue c in search needs
@@ -56,26 +71,49 @@ slice-write-queued c = in-queued (c .before)
 
 slot-requires : tie.Need-slot-requires Inv-loop μ-loop
 slot-requires c κs =
-    let r = c .before .before .loop .inv .calm .held .ring in
-    (c .before .before .before .before .before .before .before .before .before .before .before .before .before .before .before .before .before .before .pre .0 .sound .bounded, r .first, omega (arith, r .first))
+    let h = c .before .before in
+    let r = h .loop .inv .calm .held .ring in
+    (start h .pre .0 .sound .bounded, r .first, omega (arith, r .first))
 
 relax-row-requires : tie.Need-relax-row-requires Inv-loop μ-loop
-relax-row-requires c κs = (c .before .before .before .before .before .before .before .before .before .before .before .before .before .before .before .before .before .before .before .before .before .before .before .pre .0, turn-open (c .before .before .before .before .before .before .before .loop .inv) (c .before .before .before .before .before .before .loop-test .taken) (c .before .before .before .before .slot .ensures))
+relax-row-requires c κs =
+    let w = c .before .before .before .before .before .before in
+    let h = w .before in
+    (start h .pre .0, turn-open (h .loop .inv) (w .loop-test .taken) (c .before .before .before .before .slot .ensures))
 
 returns : tie.Need-returns Inv-loop μ-loop
-returns c = turn-stops (c .before .before .before .before .before .before .before .before .before .before .before .before .before .before .before .before .loop .inv) (c .before .before .before .before .before .before .before .before .before .before .before .before .before .before .before .loop-test .taken) (c .before .before .before .before .before .before .before .before .relax-row .ensures) (turn-first (c .before .before .before .before .before .before .before .before .before .before .before .before .before .before .before .before .before .before .before .before .before .before .before .before .before .before .before .before .before .before .before .before .pre .0) (c .before .before .before .before .before .before .before .before .before .before .before .before .before .before .before .before .before .before .before .before .before .before .before .before .before .before .before .before .before .before .before .before .pre .1) (c .before .before .before .before .before .before .before .before .before .before .before .before .before .before .before .before .before .before .before .before .before .before .before .before .before .store .ensures) (c .before .before .before .before .before .before .before .before .before .before .before .before .before .before .before .before .before .before .before .before .before .push .ensures) .1) (c .if1 .taken)
+returns c =
+    let r = c .before .before .before .before .before .before .before .before in
+    let w = turn r in
+    let h = w .before in
+    turn-stops (h .loop .inv) (w .loop-test .taken) (r .relax-row .ensures) (turn-first (start h .pre .0) (start h .pre .1) (stored h .store .ensures) (pushed h .push .ensures) .1) (c .if1 .taken)
 
 same-length-3 : tie.Need-same-length-3 Inv-loop μ-loop
-same-length-3 c = turn-stops (c .before .before .before .before .before .before .before .before .before .before .before .before .before .before .before .before .loop .inv) (c .before .before .before .before .before .before .before .before .before .before .before .before .before .before .before .loop-test .taken) (c .before .before .before .before .before .before .before .before .relax-row .ensures) (turn-first (c .before .before .before .before .before .before .before .before .before .before .before .before .before .before .before .before .before .before .before .before .before .before .before .before .before .before .before .before .before .before .before .before .pre .0) (c .before .before .before .before .before .before .before .before .before .before .before .before .before .before .before .before .before .before .before .before .before .before .before .before .before .before .before .before .before .before .before .before .pre .1) (c .before .before .before .before .before .before .before .before .before .before .before .before .before .before .before .before .before .before .before .before .before .before .before .before .before .store .ensures) (c .before .before .before .before .before .before .before .before .before .before .before .before .before .before .before .before .before .before .before .before .before .push .ensures) .1) (c .if1 .taken) .rest .queued .long
+same-length-3 c =
+    let r = c .before .before .before .before .before .before .before .before in
+    let w = turn r in
+    let h = w .before in
+    turn-stops (h .loop .inv) (w .loop-test .taken) (r .relax-row .ensures)
+    (turn-first (start h .pre .0) (start h .pre .1) (stored h .store .ensures) (pushed h .push .ensures) .1) (c .if1 .taken) .rest .queued .long
 
 loop-less : tie.Need-loop-less Inv-loop μ-loop
-loop-less c = turn-falls (c .before .before .before .before .before .before .before .before .before .before .before .before .before .before .before .before .loop .inv) (c .before .before .before .before .before .before .before .before .before .before .before .before .before .before .before .loop-test .taken) (c .before .before .before .before .before .before .before .before .relax-row .ensures) (c .if1 .left)
+loop-less c =
+    let r = c .before .before .before .before .before .before .before .before in
+    let w = turn r in
+    let h = w .before in
+    turn-falls (h .loop .inv) (w .loop-test .taken) (r .relax-row .ensures) (c .if1 .left)
 
 loop-again : tie.Need-loop-again Inv-loop μ-loop
-loop-again c = turn-next (c .before .before .before .before .before .before .before .before .before .before .before .before .before .before .before .before .loop .inv) (c .before .before .before .before .before .before .before .before .before .before .before .before .before .before .before .loop-test .taken) (c .before .before .before .before .before .before .before .before .relax-row .ensures) (c .if1 .left)
+loop-again c =
+    let r = c .before .before .before .before .before .before .before .before in
+    let w = turn r in
+    let h = w .before in
+    turn-next (h .loop .inv) (w .loop-test .taken) (r .relax-row .ensures) (c .if1 .left)
 
 returns-2 : tie.Need-returns-2 Inv-loop μ-loop
-returns-2 c = turn-ends (c .before .loop .inv) (c .loop-test .left) (turn-first (c .before .before .before .before .before .before .before .before .before .before .before .before .before .before .before .before .before .pre .0) (c .before .before .before .before .before .before .before .before .before .before .before .before .before .before .before .before .before .pre .1) (c .before .before .before .before .before .before .before .before .before .before .store .ensures) (c .before .before .before .before .before .before .push .ensures) .1)
+returns-2 c =
+    let h = c .before in
+    turn-ends (h .loop .inv) (c .loop-test .left) (turn-first (start h .pre .0) (start h .pre .1) (stored h .store .ensures) (pushed h .push .ensures) .1)
 
 pub search-spec : {M : Type 1} → statement M
 search-spec =
