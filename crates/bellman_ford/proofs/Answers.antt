@@ -1,4 +1,7 @@
 -- From what the parts gave to the promise: each answer of `bellman_ford`, over plain lists.
+-- Each part changes nothing past the part used of a buffer (`Kept`), one after the other too. So blanking or wiping at the end leaves what it would have left of the
+-- buffers as they were lent, and that is what the promise says: after 7 the distances blank, after 0 the entries that the search found in front of the old rest,
+-- after both the scratch wiped. From a source that the map has not the first blanking is the answer.
 -- Assumes nothing.
 use mathlib.Core.Path.{_≡_, refl, sym, ap, _∙_, subst}
 use mathlib.Core.Bool.{Bool, true, false}

@@ -1,4 +1,7 @@
 -- One arc looked at within a turn: what holds goes on to the next place of the row, or the path is as long as there are indices, which shows a closed walk below zero.
+-- Where the arc does not help, its head has a label that is low enough already. Where it does, the trail to the index taken and the arc are a trail to the new
+-- label. If that has p arcs it passes an index twice, and there is a closed walk below zero (`too-long`). Else the label is stored and its index waits: labels only
+-- fall, so whatever was low enough is so still, every other trail stays one, and the labels as a whole weigh less, by more than the one index that waits now.
 -- Assumes nothing.
 use mathlib.Core.Path.{_≡_, refl, sym, _∙_, subst}
 use mathlib.Core.Bool.{true, false}

@@ -1,4 +1,8 @@
 -- The ring of pending indices: its places, a push, and a take.
+-- The place of what stands i after the first is below m, and two such places differ while i is below m. The indices that wait are apart and below m; so with one
+-- that does not wait among those below m, fewer than m wait, and the next place is free (a list without repeats is no longer than one that has all its members). A
+-- push of an index that waits writes past the end, where nothing stands, and leaves its mark 1. A take moves the first place on and clears the mark of what stood
+-- there.
 -- Assumes nothing.
 use mathlib.Core.Path.{_≡_, refl, sym, ap, _∙_, subst}
 use mathlib.Core.Bool.{true}

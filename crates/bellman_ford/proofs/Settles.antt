@@ -1,4 +1,7 @@
 -- The promise of `bellman_ford` settles the answer and each buffer, goes by the arcs alone, and gives each number exactly when its condition holds.
+-- A case of the promise says which tests passed before it, so two answers are in one case, or one is 7 and the other 0: but a closed walk below zero is in reach or
+-- none is. In one case the buffers are equal, since least totals are. Each number's equivalence is read off the cases. Maps with the same arcs pass the same tests
+-- and have the same walks. An undirected link below zero is a closed walk below zero, there and back. A least total has fewer than 1,024 arcs, so it is never none.
 -- Assumes nothing.
 use mathlib.Core.Path.{_≡_, refl, sym, ap, _∙_}
 use mathlib.Core.Bool.{true, false}

@@ -1,4 +1,11 @@
 -- The loop over the ring: the source alone, an index taken, a turn done, and the end, where labels that no arc can lower are least totals.
+-- The argument of the search. Each label came to its index by a trail: a walk from the source, with what each index that it passes had then, in which an index that
+-- comes again has less than before. A store keeps that. Labels only fall, so the trail of the index taken, with the arc, is a trail to the new label, which is below
+-- every label that its index had (walks, Hist). The path length counts the arcs of the trail. Where it reaches p, the trail passes one of the p present indices
+-- twice, and since that has less the second time, the part between is a closed walk below zero: 7 is right (walks, Fall). With fewer arcs a label lies within 2^41,
+-- so no sum leaves 64 bits (Labels). Each store makes the labels together lighter, and each turn takes one index from the ring: twice the weight and the number that
+-- waits, added, fall with each turn, so the search ends (Arc). At the end nothing waits, and an arc of an index that does not wait lowers no label. So each label is
+-- a least total, an index without one has no walk to it, and no closed walk in reach is below zero (walks, Labels).
 -- Assumes nothing.
 use mathlib.Core.Path.{_≡_, refl, sym, _∙_, subst}
 use mathlib.Core.Bool.{Bool, true, false, true≢false}

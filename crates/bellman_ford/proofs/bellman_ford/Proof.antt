@@ -1,4 +1,7 @@
 -- `bellman_ford::bellman_ford` meets its contract: each answer is a law of proofs/Answers.antt, at what the calls gave.
+-- A refusal returns before the first write. Past it the distances are blanked; from a source that the map has not the scratch is wiped, and that is the answer. Else
+-- the marks and path lengths are cleared, the search is run, and the scratch is wiped whatever it says; after a yes the distances are blanked again. The argument of
+-- the search stands at the head of proofs/Turns.antt.
 -- Assumes nothing.
 use Rattle.bellman_ford.proofs.bellman_ford.Statement.{statement}
 use Rattle.bellman_ford.proofs.bellman_ford.Tie as tie
