@@ -1,5 +1,7 @@
 -- From a map that is not refused to its shifted neighbour list: the potentials may be asked for, the list may be made and shifted,
 -- and its arcs are then the map's arcs shifted.
+-- What stands at a place of the list is an arc of the map, so its cost is small and its head below m, and it may be shifted; every arc of the map stands there, so the
+-- shifted list has exactly the shifted arcs (Shifted). No arc lowers a potential, and none is far from 0: so its weights are from 0 to 2^41 (Shifts).
 -- Assumes nothing.
 use mathlib.Core.Path.{_≡_, refl, sym, ap, _∙_, subst}
 use mathlib.Core.Bool.{Bool, true, false}
