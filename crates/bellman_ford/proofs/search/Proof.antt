@@ -1,4 +1,7 @@
 -- `bellman_ford::search` meets its contract.
+-- The loop's invariant is `Turning` of proofs/Turns.antt, at whose head the argument stands: between two turns an index that does not wait has no arc to relax. The
+-- index taken has a label, so its row may be looked through; that gives a closed walk below zero, or the invariant again with less left to do. When nothing waits the
+-- labels are the answer.
 -- Assumes nothing.
 use Rattle.bellman_ford.proofs.search.Statement.{statement}
 use Rattle.bellman_ford.proofs.search.Tie as tie
