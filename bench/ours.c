@@ -28,7 +28,7 @@ struct ours {
     uint16_t heads[2 * N];
     int64_t weights[2 * N], keys[M], spare[M], heights[M];
     uint64_t patterns[2 * N];
-    double real_keys[M];
+    uint64_t real_keys[M];
 };
 
 /* Arguments that stand together: the table of links, an integer map, the neighbour list, the bag. */

@@ -146,7 +146,8 @@ size_t dimetumble_a_star(
 /* Distances and predecessors from a source over the open arcs of an f64 map. With capped other than 0, totals above the
  * cutoff are not stored; one equal to it is, and a NaN cuts nothing. With capped 0 the cutoff is not looked at.
  * Gives 0, 1, 2, 3, or 6 when an open arc looked at has its sign bit set (-0.0 too) or is a NaN.
- * dist, preds: bound entries; the source's distance is 0.0 and its predecessor none.
+ * dist, preds: bound entries; the source's distance is 0.0 and its predecessor none. What is proved speaks of dist as the
+ * 64-bit patterns of its doubles, in the same memory: an entry that is to stay as it was stays bit for bit, a NaN too.
  * Scratch: offsets, heads, weights; heap, places, keys of bound entries. */
 size_t dimetumble_dijkstra_path_impl(
     size_t bound, size_t count, uint8_t directed,
@@ -163,7 +164,7 @@ size_t dimetumble_dijkstra_path_impl(
     uint64_t *weights, size_t weights_len,
     size_t *heap, size_t heap_len,
     size_t *places, size_t places_len,
-    double *keys, size_t keys_len);
+    uint64_t *keys, size_t keys_len);
 
 /* The same under its second name: the Rust has two functions, one given a closure and one the open links alone. */
 size_t dimetumble_dijkstra_path_f64(
@@ -181,7 +182,7 @@ size_t dimetumble_dijkstra_path_f64(
     uint64_t *weights, size_t weights_len,
     size_t *heap, size_t heap_len,
     size_t *places, size_t places_len,
-    double *keys, size_t keys_len);
+    uint64_t *keys, size_t keys_len);
 
 /* The least totals from a source, of signed costs: dist[v] as in dimetumble_dijkstra. A source that the map has not gives 0
  * with every distance none.

@@ -36,8 +36,8 @@ static size_t room;
 #define N_EACH (MOST + 1 + PAST)
 #define N_ARCS (2 * LINKS + PAST)
 static int64_t dist[N_EACH], weights[N_ARCS], heights[N_EACH], keys[N_EACH], reached[N_EACH], matrix[64 + PAST];
-static double dist64[N_EACH], keys64[N_EACH];
-static uint64_t weights64[N_ARCS];
+static double dist64[N_EACH];
+static uint64_t keys64[N_EACH], weights64[N_ARCS];
 static uint32_t preds[N_EACH], path[N_EACH], nodes[N_EACH], hops[64 + PAST];
 static size_t offsets[N_EACH], heap[N_EACH], places[N_EACH], queue[N_EACH], queued[N_EACH], lengths[N_EACH], ranks[N_EACH], labels[N_EACH];
 static uint16_t heads[N_ARCS];
@@ -481,6 +481,22 @@ static int distances64(size_t n, const double *want)
     } while (0)
 #define NONE64 DIMETUMBLE_NONE_F64
 
+/* The same pattern in every f64 distance and key, and is it there still from entry n on? */
+static void fill64(uint64_t pattern)
+{
+    for (size_t i = 0; i < N_EACH; i++) {
+        memcpy(&dist64[i], &pattern, sizeof pattern);
+        keys64[i] = pattern;
+    }
+}
+static int stays64(size_t n, uint64_t pattern)
+{
+    for (size_t i = n; i < N_EACH; i++)
+        if (memcmp(&dist64[i], &pattern, sizeof pattern) != 0 || keys64[i] != pattern)
+            return 0;
+    return 1;
+}
+
 static void wiped_f64(void)
 {
     WIPED(offsets, DIMETUMBLE_OFFSETS(bound));
@@ -548,6 +564,19 @@ static void dijkstra_path(size_t (*ask)(size_t, uint8_t, double))
     marks[2] = 1;
     bound = 1025;
     HOLDS(ask(0, 0, 0.0) == 1 && untouched());
+    /* NaNs of any sign and payload stay bit for bit where a number leaves the distances, and past the used part after every number */
+    static const uint64_t nans[] = {0x7ff0000000000dea, 0xfff0000000000001, 0x7ff8000000000001, 0xffffffffffffffff};
+    bound = 4;
+    for (size_t i = 0; i < sizeof nans / sizeof *nans; i++) {
+        fill64(nans[i]);
+        HOLDS(ask(4, 0, 0.0) == 3 && stays64(0, nans[i]));
+        HOLDS(ask(0, 0, 0.0) == 0 && stays64(4, nans[i]));
+        DISTANCES64(0.0, 0.5, 2.0, NONE64);
+        put64(2, 3, -1.0, 1);
+        fill64(nans[i]);
+        HOLDS(ask(0, 0, 0.0) == 6 && stays64(4, nans[i]));
+        put64(2, 3, -1.0, 0);
+    }
 }
 
 /* Both names, and the slices of one of them. */

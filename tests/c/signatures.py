@@ -8,6 +8,8 @@ import re
 import sys
 
 ROOT = os.path.join(os.path.dirname(os.path.abspath(__file__)), '..', '..')
+# Proved as the 64-bit patterns of doubles, declared as doubles for those who call: the same memory.
+DOUBLES = {('dimetumble_dijkstra_path_impl', 'dist'), ('dimetumble_dijkstra_path_f64', 'dist')}
 C = {'usize': 'size_t', 'u8': 'uint8_t', 'u16': 'uint16_t', 'u32': 'uint32_t', 'u64': 'uint64_t', 'i32': 'int32_t', 'i64': 'int64_t', 'f64': 'double'}
 
 
@@ -32,6 +34,12 @@ def in_c(parameter):
     return [f'{C[element]} *{name}' if reference else f'{C[element]} {name}']
 
 
+def called(function, parameter):
+    """A parameter that is proved, as those who call have it."""
+    name, kind = parameter.split(': ')
+    return f'{name}: {kind.replace("[u64]", "[f64]")}' if (function, name) in DOUBLES else parameter
+
+
 proved = {name: (listed(ps), r) for name, ps, r in re.findall(r'pub extern "C" fn (\w+)\(([^)]*)\) -> (\w+)', text('crates/dimetumble/src/lib.rt'))}
 header = {name: (listed(ps), r) for r, name, ps in re.findall(r'(\w+) (dimetumble_\w+)\(([^)]*)\);', re.sub(r'/\*.*?\*/', '', text('include/dimetumble.h'), flags=re.S))}
 rust = {name: listed(ps) for name, ps in re.findall(r'native!\(\w+ = (\w+)\(([^)]*)\)\);', text('bindings/rust/src/native.rs'))}
@@ -43,6 +51,8 @@ for where, names in (('the header', header), ('the Rust crate', rust)):
     wrong += [f'{name} is not in {where}' for name in proved if name not in names]
     wrong += [f'{name} is in {where} alone' for name in names if name not in proved]
 for name, (parameters, result) in proved.items():
+    wrong += [f'{p} of {name} is proved, and no patterns' for f, p in DOUBLES if f == name and f'{p}: &mut [u64]' not in parameters]
+    parameters = [called(name, p) for p in parameters]
     wanted = ([c for p in parameters for c in in_c(p)], C[result])
     if name in header and header[name] != wanted:
         wrong.append(f'{name} in the header: {header[name]} and not {wanted}')

@@ -63,13 +63,13 @@ native!(a_star = dimetumble_a_star(
 native!(dijkstra_path_impl = dimetumble_dijkstra_path_impl(
     bound: usize, count: usize, directed: u8, marks: &[u8], from: &[u16], to: &[u16], bits: &[u64], opens: &[u8], source: usize,
     capped: u8, cutoff: f64, dist: &mut [f64], preds: &mut [u32], offsets: &mut [usize], heads: &mut [u16], weights: &mut [u64],
-    heap: &mut [usize], places: &mut [usize], keys: &mut [f64],
+    heap: &mut [usize], places: &mut [usize], keys: &mut [u64],
 ));
 
 native!(dijkstra_path_f64 = dimetumble_dijkstra_path_f64(
     bound: usize, count: usize, directed: u8, marks: &[u8], from: &[u16], to: &[u16], bits: &[u64], opens: &[u8], source: usize,
     capped: u8, cutoff: f64, dist: &mut [f64], preds: &mut [u32], offsets: &mut [usize], heads: &mut [u16], weights: &mut [u64],
-    heap: &mut [usize], places: &mut [usize], keys: &mut [f64],
+    heap: &mut [usize], places: &mut [usize], keys: &mut [u64],
 ));
 
 native!(bellman_ford = dimetumble_bellman_ford(

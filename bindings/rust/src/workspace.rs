@@ -26,7 +26,7 @@ pub struct Workspace {
     pub(crate) heap: Vec<usize>,
     pub(crate) places: Vec<usize>,
     pub(crate) keys: Vec<i64>,
-    pub(crate) keys64: Vec<f64>,
+    pub(crate) keys64: Vec<u64>,
     pub(crate) queue: Vec<usize>,
     pub(crate) queued: Vec<usize>,
     pub(crate) lengths: Vec<usize>,
