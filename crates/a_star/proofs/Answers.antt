@@ -47,7 +47,7 @@ use Rattle.turns.proofs.Firsts.{memory-roomy}
 use Rattle.search.specs.Runs.{Ran}
 use Rattle.search.proofs.Runs.{shown-pred}
 use Rattle.search.proofs.Lists.{wiped-memory}
-use Rattle.a_star.specs.Promise.{Question, questionOf, Answer, Scratch, Buffers, fairGuess, Fine, written, wipedAll, searchOf, Says, bad, unreached, reached, Outcome}
+use Rattle.a_star.specs.Promise.{Question, questionOf, Answer, Scratch, Buffers, fairGuess, Fine, atFront, wipedAll, searchOf, Says, bad, unreached, reached, Outcome}
 use Rattle.a_star.specs.Trail.{GoesBack}
 use Rattle.a_star.specs.Parts.{Room as ScratchRoom, CanSeek, Ripe, Sought, given, Told, pathBack, Read, refused, nowhere, found}
 use Rattle.a_star.proofs.Path.{chain-back, chain-trail}
@@ -244,9 +244,9 @@ module _ (g : Net ℤ) (q : Question) {b : Buffers} (w : Fine g q b) {x : End �
       go (inr z) = bad z (a ∙ ap (λ (k : ℕ). record { number = k; cost = noneI64; length = 0 }) (e ∙ z)) refl
 
 -- no path written
-none-written : (p : List ℕ) → p ≡ written [] p
-unfolding written
-none-written p = refl
+front-none : (p : List ℕ) → p ≡ atFront [] p
+unfolding atFront
+front-none p = refl
 
 -- ---- the whole call
 module _ {m n : ℕ} {d : Bool} {xs ys : List ℕ} {cs : List ℤ} {q : Question} {b : Buffers} (w : Ripe m n d xs ys cs q b) where
@@ -290,13 +290,13 @@ module _ {m n : ℕ} {d : Bool} {xs ys : List ℕ} {cs : List ℤ} {q : Question
         clean : u ≡ wipedAll m (arcRoom d n) (b .scratch)
         clean = f ∙ (ap (λ (k : ℕ). wipedAll m k t) e ∙ (λ i. record { rows = wiped-rows (pos 0) (z .rows) i; memory = wiped-memory (z .memory) i }))
 
-        made : (p : List ℕ) → Says (Arc d (links n xs ys cs)) q (z .end) r p → l ≡ written p (filled m noneU32 (b .path)) → Outcome (Arc d (links n xs ys cs)) m (arcRoom d n) q b (record { path = l; scratch = u }) r
+        made : (p : List ℕ) → Says (Arc d (links n xs ys cs)) q (z .end) r p → l ≡ atFront p (filled m noneU32 (b .path)) → Outcome (Arc d (links n xs ys cs)) m (arcRoom d n) q b (record { path = l; scratch = u }) r
         made p s k = record { end = z .end; ends = z .ends; path = p; says = s; leaves = λ i. record { path = k i; scratch = clean i } }
 
         longP : m ≤ length (t .memory .preds)
         longP = memory-roomy (fine-long (w .fine) .memory) (z .memory) .preds
 
         go : Read number m (q .source) (q .target) (t .memory .dist) (t .memory .preds) (b .path) l r → Outcome (Arc d (links n xs ys cs)) m (arcRoom d n) q b (record { path = l; scratch = u }) r
-        go (refused p i k) = made [] (says-bad h q (w .fine) (z .ends) (z .is) p i) (k ∙ none-written (filled m noneU32 (b .path)))
-        go (nowhere p y i k) = made [] (says-nowhere h q (w .fine) (z .ends) (t .memory) longP (z .shows p) (sym (z .is) ∙ p) y i) (k ∙ none-written (filled m noneU32 (b .path)))
+        go (refused p i k) = made [] (says-bad h q (w .fine) (z .ends) (z .is) p i) (k ∙ front-none (filled m noneU32 (b .path)))
+        go (nowhere p y i k) = made [] (says-nowhere h q (w .fine) (z .ends) (t .memory) longP (z .shows p) (sym (z .is) ∙ p) y i) (k ∙ front-none (filled m noneU32 (b .path)))
         go (found p y i k) = made (pathBack m (t .memory .preds) (q .source) (q .target)) (says-found h q (w .fine) (z .ends) (t .memory) longP (z .shows p) (sym (z .is) ∙ p) y i refl) k

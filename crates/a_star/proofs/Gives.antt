@@ -30,7 +30,7 @@ use Rattle.pending.proofs.Cells.{upd-cases, upd-here, not-out}
 use Rattle.net.specs.Net.{Net, ArcOf, has, width, sizeOf}
 use Rattle.net.proofs.Same.{arc-has}
 use Rattle.net.proofs.Cheapest.{net-path-total}
-use Rattle.a_star.specs.Promise.{Question, Answer, answerOf, without, Buffers, Fine, written, searchOf, Says, bad, unreached, reached, Outcome, Promise, short, outside, noSource, noTarget, farGuess, ran}
+use Rattle.a_star.specs.Promise.{Question, Answer, answerOf, without, Buffers, Fine, atFront, searchOf, Says, bad, unreached, reached, Outcome, Promise, short, outside, noSource, noTarget, farGuess, ran}
 use Rattle.a_star.specs.Given.{pathIn, Modest, Given}
 use Rattle.a_star.proofs.Path.{chain-path, distinct-back, passed-source}
 use Rattle.a_star.proofs.Answers.{answered, got, chain-few}
@@ -41,13 +41,13 @@ starts-has g f (stay e) h = h
 starts-has g f (step {u} {v} {c = c} a w e) h = f u v c a
 
 -- the front of what was written
-written-front : (l p : List ℕ) (n : ℕ) → length l ≡ n → take n (written l p) ≡ l
-unfolding written
-written-front l p n e = take-at l (drop (length l) p) n e
+front-take : (l p : List ℕ) (n : ℕ) → length l ≡ n → take n (atFront l p) ≡ l
+unfolding atFront
+front-take l p n e = take-at l (drop (length l) p) n e
 
 -- the path that is given is that of the outcome
 pub path-front : {Arc : ℕ → ℕ → ℤ → Type 0} {m a : ℕ} {q : Question} {b e : Buffers} {r : Answer} {d : ℤ} (o : Outcome Arc m a q b e r) → r ≡ answerOf 0 d (length (o .path)) → pathIn e r ≡ o .path
-path-front {m = m} {b = b} {r = r} o p = ap (λ (x : Buffers). take (r .length) (x .path)) (o .leaves) ∙ written-front (o .path) (filled m noneU32 (b .path)) (r .length) (sym (ap (λ (x : Answer). x .length) p))
+path-front {m = m} {b = b} {r = r} o p = ap (λ (x : Buffers). take (r .length) (x .path)) (o .leaves) ∙ front-take (o .path) (filled m noneU32 (b .path)) (r .length) (sym (ap (λ (x : Answer). x .length) p))
 
 module _ {g : Net ℤ} {q : Question} {b : Buffers} where
   module _ {e : Buffers} {r : Answer} (w : Fine g q b) (o : Outcome (ArcOf g) (g .bound) (sizeOf g) q b e r) where

@@ -17,7 +17,7 @@ use lib.ListN.{length, getD, drop, set, length-append, length-drop}
 use borrow.Author.Tests.{eq-eqb, ne-eqb}
 use Rattle.walks.specs.Pigeon.{In, here, there, NoDup}
 use Rattle.walks.specs.Chain.{Chain, source, via, hops, passed, Path, start, onto}
-use Rattle.a_star.specs.Promise.{answerOf, written}
+use Rattle.a_star.specs.Promise.{answerOf, atFront}
 use Rattle.a_star.specs.Trail.{trail, GoesBack}
 
 -- one less than one more
@@ -61,23 +61,23 @@ module _ (ps : List ℕ) (s : ℕ) where
 
 -- ---- writing
 -- the first index
-pub written-one : (v : ℕ) (p : List ℕ) → 0 < length p → set p 0 v ≡ written (v ∷ []) p
-unfolding written
-written-one v [] h = absurd (omega arith)
-written-one v (x ∷ p) h = refl
+pub front-one : (v : ℕ) (p : List ℕ) → 0 < length p → set p 0 v ≡ atFront (v ∷ []) p
+unfolding atFront
+front-one v [] h = absurd (omega arith)
+front-one v (x ∷ p) h = refl
 
 -- one more at the end
-pub written-more : (l : List ℕ) (v : ℕ) (p : List ℕ) → length l < length p → set (written l p) (length l) v ≡ written (l ++ (v ∷ [])) p
-unfolding written
-written-more [] v [] h = absurd (omega arith)
-written-more [] v (y ∷ p) h = refl
-written-more (x ∷ l) v [] h = absurd (omega arith)
-written-more (x ∷ l) v (y ∷ p) h = ap (λ (r : List ℕ). x ∷ r) (written-more l v p (omega arith))
+pub front-more : (l : List ℕ) (v : ℕ) (p : List ℕ) → length l < length p → set (atFront l p) (length l) v ≡ atFront (l ++ (v ∷ [])) p
+unfolding atFront
+front-more [] v [] h = absurd (omega arith)
+front-more [] v (y ∷ p) h = refl
+front-more (x ∷ l) v [] h = absurd (omega arith)
+front-more (x ∷ l) v (y ∷ p) h = ap (λ (r : List ℕ). x ∷ r) (front-more l v p (omega arith))
 
 -- as long as before
-pub written-long : (l p : List ℕ) → length l ≤ length p → length (written l p) ≡ length p
-unfolding written
-written-long l p h = omega (arith, length-append l (drop (length l) p), length-drop (length l) p)
+pub front-long : (l p : List ℕ) → length l ≤ length p → length (atFront l p) ≡ length p
+unfolding atFront
+front-long l p h = omega (arith, length-append l (drop (length l) p), length-drop (length l) p)
 
 -- one less than what is used is within it
 pub left-fits : {m t : ℕ} (l k : List ℕ) → m ≤ length l → t < m → length k ≡ length l → m - 1 < length k

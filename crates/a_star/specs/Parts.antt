@@ -15,7 +15,7 @@ use Rattle.net.specs.Net.{Net, netOf, insideNet, has}
 use Rattle.rows.specs.Kept.{KeptLists, Needs}
 use Rattle.turns.specs.Memory.{Shows}
 use Rattle.turns.specs.Firsts.{firsts, Roomy, KeptMemory}
-use Rattle.a_star.specs.Promise.{Question, Answer, answerOf, without, Scratch, Buffers, enough, fairGuess, Fine, written, searchOf}
+use Rattle.a_star.specs.Promise.{Question, Answer, answerOf, without, Scratch, Buffers, enough, fairGuess, Fine, atFront, searchOf}
 use Rattle.a_star.specs.Trail.{trail, GoesBack}
 
 -- refusals 2 to 5 in this order, else 0
@@ -71,4 +71,4 @@ pathBack m ps s t = trail (take m ps) s (m - 1) t
 pub data Read (number m s t : ℕ) (ds : List ℤ) (ps l l′ : List ℕ) (r : Answer) : Type 0 where
   refused : (number ≡ 0 → ⊥) → r ≡ without number → l′ ≡ filled m noneU32 l → Read number m s t ds ps l l′ r
   nowhere : number ≡ 0 → given ds t ≡ false → r ≡ without 0 → l′ ≡ filled m noneU32 l → Read number m s t ds ps l l′ r
-  found : number ≡ 0 → given ds t ≡ true → r ≡ answerOf 0 (getD ds t noneI64) (length (pathBack m ps s t)) → l′ ≡ written (pathBack m ps s t) (filled m noneU32 l) → Read number m s t ds ps l l′ r
+  found : number ≡ 0 → given ds t ≡ true → r ≡ answerOf 0 (getD ds t noneI64) (length (pathBack m ps s t)) → l′ ≡ atFront (pathBack m ps s t) (filled m noneU32 l) → Read number m s t ds ps l l′ r

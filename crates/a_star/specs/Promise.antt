@@ -99,8 +99,8 @@ pub record Fine (g : Net ℤ) (q : Question) (b : Buffers) : Type 0 where
 
 -- ---- what the call leaves
 -- a path at the front of a slice, the rest as it was
-unfoldable pub written : List ℕ → List ℕ → List ℕ
-written l p = l ++ drop (length l) p
+unfoldable pub atFront : List ℕ → List ℕ → List ℕ
+atFront l p = l ++ drop (length l) p
 
 -- the needed part of each scratch slice is all zero, and the rest as before
 abbrev pub wipedAll : ℕ → ℕ → Scratch → Scratch
@@ -108,7 +108,7 @@ wipedAll m a s = record { rows = wiped m a (pos 0) (s .rows); memory = wipedMemo
 
 -- a path from the first entry on and none after its end up to m; the scratch wiped
 abbrev pub left : ℕ → ℕ → Buffers → List ℕ → Buffers
-left m a b l = record { path = written l (filled m noneU32 (b .path)); scratch = wipedAll m a (b .scratch) }
+left m a b l = record { path = atFront l (filled m noneU32 (b .path)); scratch = wipedAll m a (b .scratch) }
 
 -- ---- the answer
 -- the pending bag's search for the question: the heuristic of an index is what its entry says

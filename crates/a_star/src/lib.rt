@@ -8,7 +8,7 @@ ghost use lib.ListN.{length, getD};
 ghost use Rattle.table.specs.Links.{present, links, Arc};
 ghost use Rattle.clean.specs.None.{noneI64};
 ghost use Rattle.net.specs.Net.{netOf, wholeNet, arcRoom};
-ghost use Rattle.a_star.specs.Promise.{Promise, Outcome, questionOf, answerOf, buffersOf, scratchOf, longEnough, isFair, fairAt, fairBelow, written, wipedAll};
+ghost use Rattle.a_star.specs.Promise.{Promise, Outcome, questionOf, answerOf, buffersOf, scratchOf, longEnough, isFair, fairAt, fairBelow, atFront, wipedAll};
 ghost use Rattle.a_star.specs.Trail.{trail, GoesBack};
 ghost use Rattle.a_star.specs.Parts.{questionNo, refusalNo, Room, CanSeek, Ripe, Sought, given, Told, Read};
 
@@ -206,7 +206,7 @@ fn write_path(preds: &[u32], source: usize, v: usize, left: usize, path: &mut [u
     requires { ⌜ GoesBack (now preds) source left v ⌝ }
     requires { ⌜ left < length (now path) ⌝ }
     ensures { λ r. ⌜ r ≡ length (trail (now (preds .entry)) source left v) ⌝ }
-    ensures { λ _. ⌜ now (path .exit) ≡ written (trail (now (preds .entry)) source left v) (now (path .entry)) ⌝ }
+    ensures { λ _. ⌜ now (path .exit) ≡ atFront (trail (now (preds .entry)) source left v) (now (path .entry)) ⌝ }
 {
     if v == source {
         path[0] = v as u32;

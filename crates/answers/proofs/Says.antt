@@ -44,8 +44,8 @@ module _ (t : List ℕ) {out after : List ℕ} {at r number : ℕ} where
   given e h p = (rw (eq-eqb number 0 e) p, omega (arith, p .ends))
 
 -- a path is no longer than the buffer that it stands in
-path-within : (l p : List ℕ) → length l ≤ length (star.written l p)
-unfolding star.written
+path-within : (l p : List ℕ) → length l ≤ length (star.atFront l p)
+unfolding star.atFront
 path-within l p = omega (arith, length-append l (drop (length l) p))
 
 pub path-fits : {g : Net ℤ} {q : star.Question} {b e : star.Buffers} {r : star.Answer} → star.Promise g q b e r → r .length ≤ length (e .path)
@@ -55,7 +55,7 @@ path-fits {e = e} {r = r} p =
     blank : {k : ℕ} → r ≡ star.without k → r .length ≤ length (e .path)
     blank q = omega (arith, ap (λ (x : star.Answer). x .length) q)
 
-    said : {Arc : ℕ → ℕ → ℤ → Type 0} {q : star.Question} {x : End ℤ} {l : List ℕ} (p : List ℕ) → e .path ≡ star.written l p → star.Says Arc q x r l → r .length ≤ length (e .path)
+    said : {Arc : ℕ → ℕ → ℤ → Type 0} {q : star.Question} {x : End ℤ} {l : List ℕ} (p : List ℕ) → e .path ≡ star.atFront l p → star.Says Arc q x r l → r .length ≤ length (e .path)
     said p w (star.bad n a b) = blank a
     said p w (star.unreached n d a b) = blank a
     said {l = l} p w (star.reached n d f c a b) = omega (arith, ap (λ (x : star.Answer). x .length) a, ap length w, path-within l p)

@@ -54,7 +54,7 @@ module _ {m p s : ℕ} {nb : Lists ℤ} (fit : Fit m p s nb) {u k i h n : ℕ} {
   c = getD (nb .weights) i (pos 0)
 
   arc-here : RowArc m nb u v c
-  arc-here = graph.here m nb u i (pos 0) (o .row) (o .from) here (omega (arith, fit .sound .weights u (o .row)))
+  arc-here = graph.here m nb u i (pos 0) (o .index) (o .from) here (omega (arith, fit .sound .weights u (o .index)))
 
   below : v < m
   below = fit .sound .inside u v c arc-here
@@ -102,7 +102,7 @@ module _ {m p s : ℕ} {nb : Lists ℤ} (fit : Fit m p s nb) {u k i h n : ℕ} {
       let w = worse-is (d ⊕ c) (getD (M .dist) v (pos 0)) b in
       record {
         held = o .held;
-        row = o .row;
+        index = o .index;
         came = o .came;
         short = o .short;
         others = o .others;
@@ -173,7 +173,7 @@ module _ {m p s : ℕ} {nb : Lists ℤ} (fit : Fit m p s nb) {u k i h n : ℕ} {
       pub stored-open : Open m p s nb u d k (i + 1) h n′ (memoryOf l′ q′ qd′ ks′)
       stored-open = record {
         held = record { good = new-good; ring = push-done (o .held .ring) below w; pending = wait };
-        row = o .row;
+        index = o .index;
         came = hist-stays falls (o .came);
         short = o .short;
         others = λ x y g z f q a r. let t = old-mark x q in low-falls falls y (g ⊕ z) (o .others x y g z f (t .1) (back x g (t .0) a) r);

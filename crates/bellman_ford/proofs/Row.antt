@@ -14,7 +14,7 @@ use Rattle.walks.specs.Hist.{Low}
 use Rattle.rows.specs.Rows.{Lists}
 use Rattle.rows.specs.RowArc.{RowArc}
 use Rattle.rows.proofs.Kept.{kept-none, kept-more}
-use Rattle.bellman_ford.specs.Search.{Memory, memoryOf, KeptMemory, Fit, Label, Calm, Open, Safe, Looked, kept, long, stored, toDo, RowDone}
+use Rattle.bellman_ford.specs.Search.{Memory, memoryOf, KeptMemory, Fit, Label, Calm, Open, Safe, ArcRelaxed, kept, long, stored, toDo, RowDone}
 use Rattle.bellman_ford.proofs.Arc.{kept-open, long-negative, stored-open, stored-lighter, stored-kept}
 
 -- nothing changed, and one change after another
@@ -38,8 +38,8 @@ row-first {m} {p} {s} {nb} {u} {k} {i} {h} {n} {d} {e} {M} q o = subst (λ (x : 
 pub safe-at : {m k v h n : ℕ} {d c c′ : ℤ} {M : Memory} → c′ ≡ c → Safe m d k v c h n M → Safe m d k v c′ h n M
 safe-at {m} {k} {v} {h} {n} {d} {M = M} e w = subst (λ (x : ℤ). Safe m d k v x h n M) (sym e) w
 
-pub looked-at : {m p k v h n n′ : ℕ} {d c c′ : ℤ} {M M′ : Memory} {t : Bool} → c′ ≡ c → Looked m p d k v c′ h n M M′ t n′ → Looked m p d k v c h n M M′ t n′
-looked-at {m} {p} {k} {v} {h} {n} {n′} {d} {M = M} {M′ = M′} {t = t} e w = subst (λ (x : ℤ). Looked m p d k v x h n M M′ t n′) e w
+pub relaxed-at : {m p k v h n n′ : ℕ} {d c c′ : ℤ} {M M′ : Memory} {t : Bool} → c′ ≡ c → ArcRelaxed m p d k v c′ h n M M′ t n′ → ArcRelaxed m p d k v c h n M M′ t n′
+relaxed-at {m} {p} {k} {v} {h} {n} {n′} {d} {M = M} {M′ = M′} {t = t} e w = subst (λ (x : ℤ). ArcRelaxed m p d k v x h n M M′ t n′) e w
 
 -- a row looked through
 open-end : {m p s : ℕ} {nb : Lists ℤ} {u k i h n : ℕ} {d : ℤ} {M : Memory} → Open m p s nb u d k i h n M → getD (nb .offsets) (u + 1) 0 ≤ i → Calm m p s nb h n M
@@ -58,7 +58,7 @@ open-end {m} {nb} {u} {i} {d} {M} o end = record { held = o .held; relaxed = λ 
 module _ {m p s : ℕ} {nb : Lists ℤ} (fit : Fit m p s nb) {u k i h n₀ n : ℕ} {d : ℤ} {M₀ M : Memory} (r : Row m p s nb u d k i h n₀ n M₀ M) where
   module _ (here : i < getD (nb .offsets) (u + 1) 0) {n′ : ℕ} {M′ : Memory} {t : Bool} where
     -- one arc more
-    pub row-next : Looked m p d k (getD (nb .heads) i 0) (getD (nb .weights) i (pos 0)) h n M M′ t n′ → t ≡ false → Row m p s nb u d k (i + 1) h n₀ n′ M₀ M′
+    pub row-next : ArcRelaxed m p d k (getD (nb .heads) i 0) (getD (nb .weights) i (pos 0)) h n M M′ t n′ → t ≡ false → Row m p s nb u d k (i + 1) h n₀ n′ M₀ M′
     row-next (kept b f e a) z = rw (e, a) (record { state = kept-open fit (r .state) here b; lighter = r .lighter; rest = r .rest })
     row-next (long b e f a) z = absurd (clash f z)
     row-next (stored b e f x y w) z =
@@ -66,12 +66,12 @@ module _ {m p s : ℕ} {nb : Lists ℤ} (fit : Fit m p s nb) {u k i h n₀ n : �
         (record { state = stored-open fit (r .state) here b e w; lighter = omega (arith, r .lighter, stored-lighter fit (r .state) here b e w); rest = memory-more (r .rest) (stored-kept fit (r .state) here b e w) })
 
     -- a path too long
-    row-long : Looked m p d k (getD (nb .heads) i 0) (getD (nb .weights) i (pos 0)) h n M M′ t n′ → t ≡ true → NegativeFrom (RowArc m nb) s × KeptMemory m M₀ M′
+    row-long : ArcRelaxed m p d k (getD (nb .heads) i 0) (getD (nb .weights) i (pos 0)) h n M M′ t n′ → t ≡ true → NegativeFrom (RowArc m nb) s × KeptMemory m M₀ M′
     row-long (kept b f e a) z = absurd (clash z f)
     row-long (long b e f a) z = (long-negative fit (r .state) here b e, rw a (r .rest))
     row-long (stored b e f x y w) z = absurd (clash z f)
 
-    pub row-stops : Looked m p d k (getD (nb .heads) i 0) (getD (nb .weights) i (pos 0)) h n M M′ t n′ → t ≡ true → RowDone m p s nb h n₀ M₀ M′ t n′
+    pub row-stops : ArcRelaxed m p d k (getD (nb .heads) i 0) (getD (nb .weights) i (pos 0)) h n M M′ t n′ → t ≡ true → RowDone m p s nb h n₀ M₀ M′ t n′
     row-stops w z = let x = row-long w z in record { yes = λ e. x .0; no = λ e. absurd (clash z e); lighter = λ e. absurd (clash z e); rest = x .1 }
 
   pub row-ends : getD (nb .offsets) (u + 1) 0 ≤ i → RowDone m p s nb h n₀ M₀ M false n

@@ -63,7 +63,7 @@ module _ {m p s : ℕ} {nb : Lists ℤ} {h n : ℕ} {M : Memory} (t : Calm m p s
   open-start : Open m p s nb u du (getD (M .lengths) u 0) (getD (nb .offsets) u 0) (slotOf m h 1) (n - 1) (memoryOf (M .dist) (M .queue) (set (M .queued) u 0) (M .lengths))
   open-start = record {
     held = record { good = t .held .good; ring = take-ring (t .held .ring) some; pending = wait };
-    row = taken-below;
+    index = taken-below;
     came = t .held .good .came u du label-u;
     short = t .held .good .short u du label-u;
     others = λ x v e c f q a r. t .relaxed x v e c (sym (apart-mark x f) ∙ q) a r;

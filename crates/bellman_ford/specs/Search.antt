@@ -103,7 +103,7 @@ pub record Calm (m p s : ℕ) (nb : Lists ℤ) (h n : ℕ) (M : Memory) : Type 0
 -- within a turn: u was taken with the label d and the path length k, and the arcs of its row before place i are relaxed
 pub record Open (m p s : ℕ) (nb : Lists ℤ) (u : ℕ) (d : ℤ) (k i h n : ℕ) (M : Memory) : Type 0 where
   pub held : Held m p s nb h n M
-  pub row : u < m
+  pub index : u < m
   pub came : Hist (RowArc m nb) s (Label m (M .dist)) u d k
   pub short : k < p
   pub others : (x v : ℕ) (e c : ℤ) → (x ≡ u → ⊥) → getD (M .queued) x 0 ≡ 0 → Label m (M .dist) x e → RowArc m nb x v c → Low (Label m (M .dist)) v (e ⊕ c)
@@ -129,11 +129,11 @@ pub data Pushed (m h n v : ℕ) (q qd q′ qd′ : List ℕ) (r : ℕ) : Type 0 
   pushed : getD qd v 0 ≡ 0 → r ≡ n + 1 → q′ ≡ set q (slotOf m h n) v → qd′ ≡ set qd v 1 → Pushed m h n v q qd q′ qd′ r
 
 -- one arc to v of cost c, looked at from an index with the label d and the path length k
-pub data Looked (m p : ℕ) (d : ℤ) (k v : ℕ) (c : ℤ) (h n : ℕ) (M M′ : Memory) (negative : Bool) (n′ : ℕ) : Type 0 where
-  kept : betterThan (d ⊕ c) (getD (M .dist) v (pos 0)) ≡ false → negative ≡ false → n′ ≡ n → M′ ≡ M → Looked m p d k v c h n M M′ negative n′
-  long : betterThan (d ⊕ c) (getD (M .dist) v (pos 0)) ≡ true → p ≤ k + 1 → negative ≡ true → M′ ≡ M → Looked m p d k v c h n M M′ negative n′
+pub data ArcRelaxed (m p : ℕ) (d : ℤ) (k v : ℕ) (c : ℤ) (h n : ℕ) (M M′ : Memory) (negative : Bool) (n′ : ℕ) : Type 0 where
+  kept : betterThan (d ⊕ c) (getD (M .dist) v (pos 0)) ≡ false → negative ≡ false → n′ ≡ n → M′ ≡ M → ArcRelaxed m p d k v c h n M M′ negative n′
+  long : betterThan (d ⊕ c) (getD (M .dist) v (pos 0)) ≡ true → p ≤ k + 1 → negative ≡ true → M′ ≡ M → ArcRelaxed m p d k v c h n M M′ negative n′
   stored : betterThan (d ⊕ c) (getD (M .dist) v (pos 0)) ≡ true → k + 1 < p → negative ≡ false → M′ .dist ≡ set (M .dist) v (d ⊕ c) → M′ .lengths ≡ set (M .lengths) v (k + 1)
-      → Pushed m h n v (M .queue) (M .queued) (M′ .queue) (M′ .queued) n′ → Looked m p d k v c h n M M′ negative n′
+      → Pushed m h n v (M .queue) (M .queued) (M′ .queue) (M′ .queued) n′ → ArcRelaxed m p d k v c h n M M′ negative n′
 
 -- what a label weighs, none the most; each store makes the whole lighter
 unfoldable pub weightOf : ℤ → ℕ

@@ -11,7 +11,7 @@ ghost use Rattle.rows.specs.Rows.{listsOf};
 ghost use Rattle.net.specs.Net.{netOf};
 ghost use Rattle.bellman_ford.specs.Promise.{Promise, buffersOf, scratchOf, longEnough, wipedAll};
 ghost use Rattle.bellman_ford.specs.Parts.{refusalNo, Room, Ripe, Solved};
-ghost use Rattle.bellman_ford.specs.Search.{slotOf, Pushed, Safe, Looked, Fit, Open, RowDone, Fresh, Searched, memoryOf};
+ghost use Rattle.bellman_ford.specs.Search.{slotOf, Pushed, Safe, ArcRelaxed, Fit, Open, RowDone, Fresh, Searched, memoryOf};
 
 // What looking at an arc or at a row leaves: was a path too long, and how many indices wait.
 struct Turn {
@@ -91,7 +91,7 @@ fn relax_arc(
     lengths: &mut [usize],
 ) -> Turn
     requires { ⌜ Safe m d k v cost head size (memoryOf (now dist) (now queue) (now queued) (now lengths)) ⌝ }
-    ensures { λ r. ⌜ Looked m p d k v cost head size (memoryOf (now (dist .entry)) (now (queue .entry)) (now (queued .entry)) (now (lengths .entry))) (memoryOf (now (dist .exit)) (now (queue .exit)) (now (queued .exit)) (now (lengths .exit))) (r .negative) (r .size) ⌝ }
+    ensures { λ r. ⌜ ArcRelaxed m p d k v cost head size (memoryOf (now (dist .entry)) (now (queue .entry)) (now (queued .entry)) (now (lengths .entry))) (memoryOf (now (dist .exit)) (now (queue .exit)) (now (queued .exit)) (now (lengths .exit))) (r .negative) (r .size) ⌝ }
 {
     let n = whole::plus(d, cost);
     if !better(n, dist[v]) {

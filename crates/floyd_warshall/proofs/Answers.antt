@@ -28,7 +28,7 @@ use Rattle.matrix.specs.Matrix.{square, negative, done}
 use Rattle.matrix.proofs.Matrix.{place-in, closed-up}
 use Rattle.floyd_warshall.specs.Promise.{Promise}
 use Rattle.floyd_warshall.specs.Rounds.{pickZ, cell, after, anyBelow, Strided, Begun, Refused, Complete, Rounded}
-use Rattle.floyd_warshall.specs.Filling.{refusalNo, Sound, Ranked, Started, Costs, poured, shown, Shown, Solved}
+use Rattle.floyd_warshall.specs.Filling.{refusalNo, Sound, Ranked, Started, Costs, poured, shown, MatrixShown, Solved}
 use Rattle.floyd_warshall.proofs.Turns.{none-below, some-below}
 use Rattle.floyd_warshall.proofs.Totals.{refused, never, near-entry, far-entry}
 use Rattle.floyd_warshall.proofs.Poured.{arc-fits}
@@ -70,7 +70,7 @@ module _ (m n : ℕ) (d : Bool) (marks xs ys : List ℕ) (cs : List ℤ) (ranks 
         (begun m n d marks xs ys cs ranks S R F (q .first) (q .started) (λ i h. subst (λ (x : List ℤ). pos 0 ≤ℤ cell (width g) x i i) (q .is) (subst (λ (x : ℕ). pos 0 ≤ℤ getD l x (pos 0)) (diagonal-place (width g) i) (none-below l 0 (width g + 1) (width g) e i h))))
 
     -- every round is done, and each entry is shown
-    module _ {l′ l″ : List ℤ} (C : Complete (width g) l l′) (s : length l′ ≡ length l) (H : Shown l′ l″) where
+    module _ {l′ l″ : List ℤ} (C : Complete (width g) l l′) (s : length l′ ≡ length l) (H : MatrixShown l′ l″) where
       all-done : Complete (width g) (poured d (width g) ranks (links n xs ys cs) (q .first)) l′
       all-done = subst (λ (x : List ℤ). Complete (width g) x l′) (q .is) C
 
@@ -114,7 +114,7 @@ module _ (m n : ℕ) (d : Bool) (marks xs ys : List ℕ) (cs : List ℤ) (ranks 
     pub solved-rounds : (b : Bool) (l′ : List ℤ) → Rounded p l l′ b → b ≡ true → Negative (ArcOf g)
     solved-rounds b l′ r t = below-rounds there (subst (λ (x : ℕ). Refused x (cell x l)) w (subst (Rounded p l l′) t r))
 
-    pub solved-all : (b : Bool) {l′ l″ : List ℤ} → Rounded p l l′ b → b ≡ false → length l′ ≡ length l → Shown l′ l″ → Solved g false l″
+    pub solved-all : (b : Bool) {l′ l″ : List ℤ} → Rounded p l l′ b → b ≡ false → length l′ ≡ length l → MatrixShown l′ l″ → Solved g false l″
     solved-all b {l′} r t s H = solved-done there (subst (λ (x : ℕ). Complete x l l′) w (subst (Rounded p l l′) t r)) s H
 
 -- ---- the promise

@@ -15,7 +15,7 @@ use Rattle.matrix.proofs.Matrix.{place-in}
 use Rattle.floyd_warshall.specs.Rounds.{cell}
 use Rattle.table.specs.Links.{Link, links}
 use Rattle.whole.specs.Zed.{Cost32}
-use Rattle.floyd_warshall.specs.Filling.{Square, Started, shown, Shown, linked, poured, Costs}
+use Rattle.floyd_warshall.specs.Filling.{Square, Started, shown, MatrixShown, linked, poured, Costs}
 use Rattle.floyd_warshall.proofs.Poured.{next-link, no-link}
 use Rattle.floyd_warshall.proofs.Cells.{cell-same, cell-row, cell-column}
 
@@ -71,7 +71,7 @@ showing-more l₀ x l z h e r = record { within = omega (arith, r .size); size =
     go y (yes q) k = subst (λ (w : ℕ). getD (set l x z) w (pos 0) ≡ shown (getD l₀ w (pos 0))) (sym q) (getD-set-same l x z (pos 0) h ∙ (e ∙ ap shown (r .rest x (omega arith))))
     go y (no q) k = getD-set-other l x y z (pos 0) q ∙ r .at y (omega (arith, q))
 
-pub all-shown : (l₀ : List ℤ) (x : ℕ) (l : List ℤ) → length l ≤ x → Showing l₀ x l → Shown l₀ l
+pub all-shown : (l₀ : List ℤ) (x : ℕ) (l : List ℤ) → length l ≤ x → Showing l₀ x l → MatrixShown l₀ l
 all-shown l₀ x l h r = record { size = r .size; at = λ y k. r .at y (omega (arith, r .size)) }
 
 -- the links below e poured

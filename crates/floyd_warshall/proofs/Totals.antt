@@ -33,8 +33,8 @@ pub record Gap (Arc : ℕ → ℕ → ℤ → Type 0) (L : List ℕ) (i j : ℕ)
   pub high : a ⊕ b ⊕ pos (2 ^ 50) ≤ℤ t
 
 -- what an entry is
-abbrev pub Known : (ℕ → ℕ → ℤ → Type 0) → List ℕ → ℕ → ℕ → ℤ → Type 0
-Known Arc L i j t = Negative Arc ⊎ (Walk Arc (getD L i 0) (getD L j 0) t ⊎ Gap Arc L i j t)
+abbrev pub EntryMeans : (ℕ → ℕ → ℤ → Type 0) → List ℕ → ℕ → ℕ → ℤ → Type 0
+EntryMeans Arc L i j t = Negative Arc ⊎ (Walk Arc (getD L i 0) (getD L j 0) t ⊎ Gap Arc L i j t)
 
 -- what the matrix holds before the rounds
 pub record Filled (Arc : ℕ → ℕ → ℤ → Type 0) (L : List ℕ) (A : ℕ → ℕ → ℤ) : Type 0 where
@@ -65,7 +65,7 @@ module _ {Arc : ℕ → ℕ → ℤ → Type 0} {L : List ℕ} (R : Rowed Arc L)
       go (inr c) = let h : c .s ≤ℤ t = c .cheap in inr (omega (arith, zed, c .near, R .few))
 
   -- two entries, added
-  join-known : (i k j : ℕ) {s t : ℤ} → Known Arc L i k s → Known Arc L k j t → Known Arc L i j (s ⊕ t)
+  join-known : (i k j : ℕ) {s t : ℤ} → EntryMeans Arc L i k s → EntryMeans Arc L k j t → EntryMeans Arc L i j (s ⊕ t)
   join-known i k j (inl n) q = inl n
   join-known i k j (inr p) (inl n) = inl n
   join-known i k j (inr (inl w)) (inr (inl z)) = inr (inl (join w z refl))
@@ -95,7 +95,7 @@ module _ {Arc : ℕ → ℕ → ℤ → Type 0} {L : List ℕ} (R : Rowed Arc L)
       }))
   join-known i k j {s} {t} (inr (inr g)) (inr (inr f)) = go (small (g .inside) (join (g .from) (f .to) refl))
     where
-      go : Negative Arc ⊎ (N (g .b ⊕ f .a) ≤ 2 ^ 41 + P (g .b ⊕ f .a)) → Known Arc L i j (s ⊕ t)
+      go : Negative Arc ⊎ (N (g .b ⊕ f .a) ≤ 2 ^ 41 + P (g .b ⊕ f .a)) → EntryMeans Arc L i j (s ⊕ t)
       go (inl n) = inl n
       go (inr m) =
           let h : g .a ⊕ g .b ⊕ pos (2 ^ 50) ≤ℤ s = g .high in
@@ -113,27 +113,27 @@ module _ {Arc : ℕ → ℕ → ℤ → Type 0} {L : List ℕ} (R : Rowed Arc L)
 
   module _ {A : ℕ → ℕ → ℤ} (F : Filled Arc L A) where
     -- every entry, before the rounds
-    first-known : (i j : ℕ) → i < length L → j < length L → Known Arc L i j (A i j)
+    first-known : (i j : ℕ) → i < length L → j < length L → EntryMeans Arc L i j (A i j)
     first-known i j h k = go (F .real i j h k)
       where
-        go : (A i j ≡ pos (2 ^ 50)) ⊎ Walk Arc (getD L i 0) (getD L j 0) (A i j) → Known Arc L i j (A i j)
+        go : (A i j ≡ pos (2 ^ 50)) ⊎ Walk Arc (getD L i 0) (getD L j 0) (A i j) → EntryMeans Arc L i j (A i j)
         go (inl e) = inr (inr (record { x = getD L i 0; y = getD L j 0; a = pos 0; b = pos 0; to = stay refl; from = stay refl; inside = R .row j k; high = omega (arith, zed, sum (pos 0) (pos 0), sum (pos 0 ⊕ pos 0) (pos (2 ^ 50))) }))
         go (inr w) = inr (inl w)
 
     -- and after k of them
-    pub known : (k : ℕ) → k ≤ length L → (i j : ℕ) → i < length L → j < length L → Known Arc L i j (after A k i j)
+    pub known : (k : ℕ) → k ≤ length L → (i j : ℕ) → i < length L → j < length L → EntryMeans Arc L i j (after A k i j)
     unfolding after
     known zero l i j p q = first-known i j p q
     known (suc k) l i j p q = go (known k (omega arith) i j p q) (known k (omega arith) i k p l) (known k (omega arith) k j l q) (lesser-is (after A k i j) (after A k i k ⊕ after A k k j))
       where
-        go : Known Arc L i j (after A k i j) → Known Arc L i k (after A k i k) → Known Arc L k j (after A k k j)
+        go : EntryMeans Arc L i j (after A k i j) → EntryMeans Arc L i k (after A k i k) → EntryMeans Arc L k j (after A k k j)
             → Choice (after A k i j) (after A k i k ⊕ after A k k j)
-            → Known Arc L i j (lesser (after A k i j) (after A k i k ⊕ after A k k j))
-        go x y z (inl e) = subst (Known Arc L i j) (sym (e .0)) x
-        go x y z (inr e) = subst (Known Arc L i j) (sym (e .0)) (join-known i k j y z)
+            → EntryMeans Arc L i j (lesser (after A k i j) (after A k i k ⊕ after A k k j))
+        go x y z (inl e) = subst (EntryMeans Arc L i j) (sym (e .0)) x
+        go x y z (inr e) = subst (EntryMeans Arc L i j) (sym (e .0)) (join-known i k j y z)
 
     -- a diagonal entry below zero gives a closed walk below zero
-    below-zero : (i : ℕ) (t : ℤ) → Known Arc L i i t → t <ℤ pos 0 → Negative Arc
+    below-zero : (i : ℕ) (t : ℤ) → EntryMeans Arc L i i t → t <ℤ pos 0 → Negative Arc
     below-zero i t (inl n) h = n
     below-zero i t (inr (inl w)) h = record { x = getD L i 0; t = t; loop = w; below = h }
     below-zero i t (inr (inr g)) h = go (small (g .inside) (join (g .from) (g .to) refl))
@@ -194,7 +194,7 @@ module _ {Arc : ℕ → ℕ → ℤ → Type 0} {L : List ℕ} (R : Rowed Arc L)
             far g (inr p) (inl n) = never n
             far g (inr p) (inr q) = let e : g .a ⊕ g .b ⊕ pos (2 ^ 50) ≤ℤ after A (length L) i j = g .high in omega (arith, zed, sum (g .a) (g .b), sum (g .a ⊕ g .b) (pos (2 ^ 50)))
 
-            go : Known Arc L i j (after A (length L) i j) → Least Arc (getD L i 0) (getD L j 0) (after A (length L) i j)
+            go : EntryMeans Arc L i j (after A (length L) i j) → Least Arc (getD L i 0) (getD L j 0) (after A (length L) i j)
             go (inl n) = absurd (never n)
             go (inr (inl w)) = record { walk = w; least = at-most }
             go (inr (inr g)) = absurd (far g (small (R .row i h) (g .to)) (small (g .inside) (g .from)))

@@ -62,7 +62,7 @@ unfoldable pub shown : ℤ → ℤ
 shown z = pickZ (ltZ z (pos (2 ^ 49))) z noneI64
 
 -- each entry as it is shown
-pub record Shown (l l′ : List ℤ) : Type 0 where
+pub record MatrixShown (l l′ : List ℤ) : Type 0 where
   pub size : length l′ ≡ length l
   pub at : (x : ℕ) → x < length l → getD l′ x (pos 0) ≡ shown (getD l x (pos 0))
 

@@ -11,7 +11,7 @@ ghost use Rattle.table.specs.Links.{links};
 ghost use Rattle.net.specs.Net.{netOf, width};
 ghost use Rattle.floyd_warshall.specs.Promise.{Promise};
 ghost use Rattle.floyd_warshall.specs.Rounds.{lesser, reaching, anyBelow, Strided, Begun, Rounded};
-ghost use Rattle.floyd_warshall.specs.Filling.{Square, Started, Sound, Ranked, linked, poured, Costs, shown, Shown, Solved, refusalNo};
+ghost use Rattle.floyd_warshall.specs.Filling.{Square, Started, Sound, Ranked, linked, poured, Costs, shown, MatrixShown, Solved, refusalNo};
 
 // What stands for "no walk" in the rounds: 2^50, far from every total.
 const FAR: i64 = 1125899906842624;
@@ -167,7 +167,7 @@ fn shown_of(z: i64) -> i64
 
 // Each entry as it is shown.
 fn show(cells: &mut [i64])
-    ensures { λ _. ⌜ Shown (now (cells .entry)) (now (cells .exit)) ⌝ }
+    ensures { λ _. ⌜ MatrixShown (now (cells .entry)) (now (cells .exit)) ⌝ }
 {
     let mut x: usize = 0;
     while x < cells.len() {

@@ -180,7 +180,7 @@ module _ {m s n : ℕ} {E : ℕ → ℕ → Type 0} {l q : List ℕ} (g : Good m
 module _ {m s : ℕ} {os hs : List ℕ} (fit : Sound m (endLists os hs)) {u k h : ℕ} where
   -- an arc of the row
   pub row-arc : {i n : ℕ} {l q : List ℕ} → Open m s os hs u k i h n l q → i < getD os (u + 1) 0 → RowLeads m os hs u (getD hs i 0)
-  row-arc {i} o t = record { at = i; row = subst (λ (x : ℕ). x < m) (o .is) (o .good .inside h (o .here)); from = o .from; to = t; head = refl; cost = λ x. refl }
+  row-arc {i} o t = record { at = i; index = subst (λ (x : ℕ). x < m) (o .is) (o .good .inside h (o .here)); from = o .from; to = t; head = refl; cost = λ x. refl }
 
   pub row-below : {i n : ℕ} {l q : List ℕ} → Open m s os hs u k i h n l q → i < getD os (u + 1) 0 → getD hs i 0 < m
   row-below {i} o t = fit .inside u (getD hs i 0) tt (row-arc o t)
@@ -261,7 +261,7 @@ module _ {m s : ℕ} {os hs : List ℕ} (fit : Sound m (endLists os hs)) {u k h 
       walk : (d : ℕ) → k + 1 ≡ suc d → Steps (RowLeads m os hs) s (getD hs i 0) d
       walk d e =
           let p : 0 < k = omega (arith, seen, o .label) in
-          let w = snoc (g .sound u (k - 1) (row-arc o t .row) (o .label ∙ omega arith)) (row-arc o t) in
+          let w = snoc (g .sound u (k - 1) (row-arc o t .index) (o .label ∙ omega arith)) (row-arc o t) in
           subst (λ (x : ℕ). Steps (RowLeads m os hs) s (getD hs i 0) x) (omega (arith, e)) w
 
       top-new : (j : ℕ) → j < n + 1 → Dec (j ≡ n) → getD (set l (getD hs i 0) (k + 1)) (getD q j 0) 0 ≤ k + 1

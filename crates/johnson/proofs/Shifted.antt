@@ -122,21 +122,21 @@ module _ {m : ℕ} {os hs : List ℕ} {h ws ws′ : List ℤ} (w : Listed m 0 (l
 
   pub row-shifted : (u v : ℕ) (c : ℤ) → RowArc m (listsOf os hs ws′) u v c → Shifted (RowArc m (listsOf os hs ws)) (label h) u v c
   row-shifted u v c a =
-      let k = at-most u (a .at) (a .row) (a .to) in
-      let e = to .each u (a .at) (a .row) (a .from) (a .to) (k .0) in (
+      let k = at-most u (a .at) (a .index) (a .to) in
+      let e = to .each u (a .at) (a .index) (a .from) (a .to) (k .0) in (
         getD ws (a .at) (pos 0),
-        record { at = a .at; row = a .row; from = a .from; to = a .to; head = a .head; cost = λ o. no-default ws (a .at) o (pos 0) (k .1) },
+        record { at = a .at; index = a .index; from = a .from; to = a .to; head = a .head; cost = λ o. no-default ws (a .at) o (pos 0) (k .1) },
         sym (a .cost (pos 0)) ∙ (e ∙ ap (λ (x : ℕ). shiftedCost h u x (getD ws (a .at) (pos 0))) (a .head)),
       )
 
   pub shifted-row : (u v : ℕ) (c : ℤ) → Shifted (RowArc m (listsOf os hs ws)) (label h) u v c → RowArc m (listsOf os hs ws′) u v c
   shifted-row u v c s =
       let a = s .1 in
-      let k = at-most u (a .at) (a .row) (a .to) in
-      let e = to .each u (a .at) (a .row) (a .from) (a .to) (k .0) in
+      let k = at-most u (a .at) (a .index) (a .to) in
+      let e = to .each u (a .at) (a .index) (a .from) (a .to) (k .0) in
       record {
         at = a .at;
-        row = a .row;
+        index = a .index;
         from = a .from;
         to = a .to;
         head = a .head;

@@ -33,7 +33,7 @@ use Rattle.search.specs.Runs.{Cheap, Reached, done, bad}
 use Rattle.matrix.proofs.Matrix.{square-small, row-in, row-before}
 use Rattle.johnson.specs.Rounds.{label, Deep}
 use Rattle.johnson.specs.Shifting.{shiftedBack}
-use Rattle.johnson.specs.Parts.{Even, Found, rank, Moderate, CanShow, RowShown, CanFill, Shown, Filled, RowMade}
+use Rattle.johnson.specs.Parts.{Even, Found, rank, Moderate, CanShow, RowShown, CanFill, EntryShown, Filled, RowMade}
 
 -- ---- one row
 -- while it is written: v indices are passed, j of them present
@@ -167,14 +167,14 @@ module _ {m p : ℕ} {marks : List ℕ} {nb : Lists ℤ} {h matrix : List ℤ} (
         rest = λ x k. r .past x (omega (arith, row-in p i below, can .width)) ∙ w .rest x k;
       }
         where
-          go : (x v : ℕ) → x < u + 1 → v < m → present m marks x ≡ true → present m marks v ≡ true → Dec (x ≡ u) → Shown m nb h x v (getD matrix′ (rank m marks x * p + rank m marks v) (pos 0))
+          go : (x v : ℕ) → x < u + 1 → v < m → present m marks x ≡ true → present m marks v ≡ true → Dec (x ≡ u) → EntryShown m nb h x v (getD matrix′ (rank m marks x * p + rank m marks v) (pos 0))
           go x v k b q e (yes z) =
-              subst (λ (y : ℕ). Shown m nb h y v (getD matrix′ (rank m marks y * p + rank m marks v) (pos 0))) (sym z)
-              (subst (λ (y : ℕ). Shown m nb h u v (getD matrix′ (y * p + rank m marks v) (pos 0))) is (record { found = getD ds v (pos 0); total = found v b; is = r .each v b e }))
+              subst (λ (y : ℕ). EntryShown m nb h y v (getD matrix′ (rank m marks y * p + rank m marks v) (pos 0))) (sym z)
+              (subst (λ (y : ℕ). EntryShown m nb h u v (getD matrix′ (y * p + rank m marks v) (pos 0))) is (record { found = getD ds v (pos 0); total = found v b; is = r .each v b e }))
           go x v k b q e (no z) =
               let a : rank m marks v < p = omega (arith, can .width, ranked (present m marks) m v b e .within) in
               let c : rank m marks x < i = omega (arith, is, ranked (present m marks) u x (omega (arith, z)) q .within) in
-              subst (Shown m nb h x v) (sym (r .ahead (rank m marks x * p + rank m marks v) (row-before p (rank m marks x) i (rank m marks v) c a))) (w .each x v (omega (arith, z)) b q e)
+              subst (EntryShown m nb h x v) (sym (r .ahead (rank m marks x * p + rank m marks v) (row-before p (rank m marks x) i (rank m marks v) c a))) (w .each x v (omega (arith, z)) b q e)
 
       pub row-counted : i + 1 ≡ rank m marks (u + 1)
       row-counted = omega (arith, is, count-yes m marks u l f)
@@ -184,7 +184,7 @@ module _ {m p : ℕ} {marks : List ℕ} {nb : Lists ℤ} {h matrix : List ℤ} (
       pub row-skipped : RowMade m p u marks nb h matrix matrix
       row-skipped before w = record { long = w .long; each = λ x v k b q t. go x v k b q t (ℕ-discrete x u); rest = w .rest }
         where
-          go : (x v : ℕ) → x < u + 1 → v < m → present m marks x ≡ true → present m marks v ≡ true → Dec (x ≡ u) → Shown m nb h x v (getD matrix (rank m marks x * p + rank m marks v) (pos 0))
+          go : (x v : ℕ) → x < u + 1 → v < m → present m marks x ≡ true → present m marks v ≡ true → Dec (x ≡ u) → EntryShown m nb h x v (getD matrix (rank m marks x * p + rank m marks v) (pos 0))
           go x v k b q t (yes z) = absurd (clash (sym (ap (present m marks) z) ∙ q) (present-no m marks u l e))
           go x v k b q t (no z) = w .each x v (omega (arith, z)) b q t
 

@@ -23,7 +23,7 @@ use Rattle.turns.specs.Firsts.{KeptMemory}
 use Rattle.matrix.specs.Matrix.{square, Matrix}
 use Rattle.matrix.proofs.Matrix.{closed-up}
 use Rattle.johnson.specs.Promise.{Scratch, scratchOf}
-use Rattle.johnson.specs.Parts.{rank, CanFill, Shown, Filled, Ripe, Laid, KeptAll, Prepared, Passed, Solved}
+use Rattle.johnson.specs.Parts.{rank, CanFill, EntryShown, Filled, Ripe, Laid, KeptAll, Prepared, Passed, Solved}
 use Rattle.johnson.proofs.Sweeps.{none-below}
 use Rattle.johnson.proofs.Shifts.{total-back}
 use Rattle.turns.proofs.Firsts.{memory-none}
@@ -35,7 +35,7 @@ module _ {g : Net ℤ} {nb : Lists ℤ} {h : List ℤ} (laid : Laid g nb h) (ins
   no-negative = none-below h (laid .potentials .resting)
 
   -- what is shown is the map's total, in its range
-  shown-entry : (u v : ℕ) (x : ℤ) → has g u ≡ true → Shown (g .bound) nb h u v x → Entry (ArcOf g) u v x
+  shown-entry : (u v : ℕ) (x : ℤ) → has g u ≡ true → EntryShown (g .bound) nb h u v x → Entry (ArcOf g) u v x
   shown-entry u v x i w =
       entry-of (total-within g u v x inside i few (laid .potentials .small) (λ y a t r o. closed-up no-negative o))
       (subst (Total (ArcOf g) u v) (sym (w .is)) (total-back h (laid .potentials) u v (w .found) (total-over (laid .shifted) (laid .back) (w .total))))

@@ -13,7 +13,7 @@ use lib.IntN.{ℤ}
 use lib.Signed.{_≤ℤ_}
 use lib.ListN.{length}
 use Rattle.whole.specs.Zed.{_⊕_, P, N, Cost32}
-use Rattle.johnson.specs.Rounds.{label, lowers, lowered, looked, Table, tail, head, cost, swept, rounds, Still, StillTo, Shallow, Linked, Deep, Looked, forth, back, Tested, Swept, RoundsDone, TestedAll}
+use Rattle.johnson.specs.Rounds.{label, lowers, lowered, looked, Table, tail, head, cost, swept, rounds, Still, StillTo, Shallow, Linked, Deep, LinkRelaxed, forth, back, Tested, Swept, RoundsDone, TestedAll}
 use Rattle.johnson.specs.Potentials.{Ask}
 use Rattle.johnson.proofs.Looks.{lowered-no, lowers-still, looked-one, looked-two, look-shallow, link-long, link-shallow}
 use Rattle.whole.proofs.Cases.{clash}
@@ -30,7 +30,7 @@ pub deep-more : (z : ℤ) → Deep (2 ^ 59) z → Deep (2 ^ 60) z
 deep-more z d = record { high = d .high; low = omega (arith, d .low) }
 
 module _ {d : Bool} (u v : ℕ) (c : ℤ) (h : List ℤ) where
-  pub looked-directed : {h′ : List ℤ} {r : Bool} → d ≡ true → r ≡ lowers u v c h → Cost32 c → h′ ≡ lowered u v c h → Looked d u v c h h′ r
+  pub looked-directed : {h′ : List ℤ} {r : Bool} → d ≡ true → r ≡ lowers u v c h → Cost32 c → h′ ≡ lowered u v c h → LinkRelaxed d u v c h h′ r
   looked-directed e f small g = record {
     leaves = g ∙ sym (looked-one d u v c h e);
     small = small;
@@ -41,10 +41,10 @@ module _ {d : Bool} (u v : ℕ) (c : ℤ) (h : List ℤ) where
     both-leave : h2 ≡ looked d u v c h
     both-leave = g2 ∙ (ap (lowered v u c) g1 ∙ sym (looked-two d u v c h e))
 
-    pub looked-fell : r1 ≡ true → Looked d u v c h h2 true
+    pub looked-fell : r1 ≡ true → LinkRelaxed d u v c h h2 true
     looked-fell q = record { leaves = both-leave; small = small; quiet = λ z. absurd (clash refl z) }
 
-    pub looked-back : r1 ≡ false → Looked d u v c h h2 r2
+    pub looked-back : r1 ≡ false → LinkRelaxed d u v c h h2 r2
     looked-back q = record {
       leaves = both-leave;
       small = small;
@@ -91,7 +91,7 @@ module _ {t : Table} {n : ℕ} {h₀ : List ℤ} (sound : Linked (length h₀) n
 
   module _ {h : List ℤ} {k : ℕ} {fell : Bool} (s : Sweeping t n h₀ h k fell) (l : k < n) where
     -- one link more; the round is quiet only if it was and this link is
-    pub sweep-next : {h′ : List ℤ} {r after : Bool} → Looked (t .directed) (tail t k) (head t k) (cost t k) h h′ r → (after ≡ false → (fell ≡ false) × (r ≡ false)) → Sweeping t n h₀ h′ (k + 1) after
+    pub sweep-next : {h′ : List ℤ} {r after : Bool} → LinkRelaxed (t .directed) (tail t k) (head t k) (cost t k) h h′ r → (after ≡ false → (fell ≡ false) × (r ≡ false)) → Sweeping t n h₀ h′ (k + 1) after
     sweep-next {h′} w f = record {
       some = omega arith;
       leaves = w .leaves ∙ (ap (looked (t .directed) (tail t k) (head t k) (cost t k)) (s .leaves) ∙ sym (swept-more t k h₀));

@@ -73,7 +73,7 @@ pub record CanFill (m p : ℕ) (marks : List ℕ) (nb : Lists ℤ) (h matrix : L
   pub room : p * p ≤ length matrix
 
 -- an entry: the total that a search from u finds for v, shifted back
-pub record Shown (m : ℕ) (nb : Lists ℤ) (h : List ℤ) (u v : ℕ) (x : ℤ) : Type 0 where
+pub record EntryShown (m : ℕ) (nb : Lists ℤ) (h : List ℤ) (u v : ℕ) (x : ℤ) : Type 0 where
   pub found : ℤ
   pub total : Total (RowArc m nb) u v found
   pub is : x ≡ shiftedBack h u v found
@@ -81,7 +81,7 @@ pub record Shown (m : ℕ) (nb : Lists ℤ) (h : List ℤ) (u v : ℕ) (x : ℤ)
 -- the rows of the present ones of the first k indices; what is past the square is as it was
 pub record Filled (m p k : ℕ) (marks : List ℕ) (nb : Lists ℤ) (h before after : List ℤ) : Type 0 where
   pub long : length after ≡ length before
-  pub each : (u v : ℕ) → u < k → v < m → present m marks u ≡ true → present m marks v ≡ true → Shown m nb h u v (getD after (rank m marks u * p + rank m marks v) (pos 0))
+  pub each : (u v : ℕ) → u < k → v < m → present m marks u ≡ true → present m marks v ≡ true → EntryShown m nb h u v (getD after (rank m marks u * p + rank m marks v) (pos 0))
   pub rest : (x : ℕ) → p * p ≤ x → getD after x (pos 0) ≡ getD before x (pos 0)
 
 -- the row of u added, if u is present

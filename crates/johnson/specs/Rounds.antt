@@ -89,7 +89,7 @@ pub record Deep (b : ℕ) (z : ℤ) : Type 0 where
   pub low : N z ≤ b
 
 -- a look at a link: what it leaves, and whether a potential fell; its cost is one of 32 bits
-pub record Looked (d : Bool) (u v : ℕ) (c : ℤ) (h h′ : List ℤ) (fell : Bool) : Type 0 where
+pub record LinkRelaxed (d : Bool) (u v : ℕ) (c : ℤ) (h h′ : List ℤ) (fell : Bool) : Type 0 where
   pub leaves : h′ ≡ looked d u v c h
   pub small : Cost32 c
   pub quiet : fell ≡ false → (h′ ≡ h) × Still d u v c h

@@ -5,7 +5,7 @@ ghost use Prim.Native.Nat.{ℕ, _+_, _*_, _≤_, _<_, _^_};
 ghost use lib.IntN.{pos};
 ghost use lib.ListN.{length, getD, set};
 ghost use Rattle.whole.specs.Zed.{_⊕_, Cost32};
-ghost use Rattle.johnson.specs.Rounds.{label, lowers, lowered, tableOf, Shallow, Linked, Deep, Looked, Swept, Tested, RoundsDone, TestedAll};
+ghost use Rattle.johnson.specs.Rounds.{label, lowers, lowered, tableOf, Shallow, Linked, Deep, LinkRelaxed, Swept, Tested, RoundsDone, TestedAll};
 ghost use Rattle.johnson.specs.Potentials.{Ask, Answered};
 ghost use Rattle.rows.specs.Rows.{listsOf};
 ghost use Rattle.net.specs.Net.{netOf};
@@ -56,7 +56,7 @@ fn relax_link(
     heights: &mut [i64],
 ) -> bool
     requires { ⌜ (k < length (now from)) × (k < length (now to)) × (k < length (now costs)) × (getD (now from) k 0 < length (now heights)) × (getD (now to) k 0 < length (now heights)) × ((v : ℕ) → Deep (2 ^ 59) (label (now heights) v)) ⌝ }
-    ensures { λ r. ⌜ Looked directed (getD (now (from .entry)) k 0) (getD (now (to .entry)) k 0) (getD (now (costs .entry)) k (pos 0)) (now (heights .entry)) (now (heights .exit)) r ⌝ }
+    ensures { λ r. ⌜ LinkRelaxed directed (getD (now (from .entry)) k 0) (getD (now (to .entry)) k 0) (getD (now (costs .entry)) k (pos 0)) (now (heights .entry)) (now (heights .exit)) r ⌝ }
 {
     let u = from[k] as usize;
     let v = to[k] as usize;

@@ -8,7 +8,7 @@ use Prim.Native.Nat.{ℕ}
 use lib.IntN.{pos}
 use Rattle.clean.specs.Fill.{filled}
 use Rattle.table.specs.Links.{samePair, joinsEnds, present, presentBoth, lentWhole, tableNo, placeAt, placing}
-use Rattle.table.specs.Lent.{least, roomInts, roomFloats, storeInts, putInts, storeFloats, putFloats}
+use Rattle.table.specs.Lent.{shorter, roomInts, roomFloats, storeInts, putInts, storeFloats, putFloats}
 use Rattle.mapfile.specs.Bytes.{u16At, u32At, u64At, costOf}
 use Rattle.mapfile.specs.Records.{headAt, absentAt, linkAt, floatLinkAt, askAt, kindAt, recordAt}
 use Rattle.mapfile.specs.Load.{headStep, absentStep, linkMay, afterPut, linkStep, floatStep, engineMay, askStep, oneStep, loaded}
@@ -123,5 +123,5 @@ asks =
 
 -- every one of them ends so
 pub offsets : map walk (sound ++ first ++ noAsk ++ shapes ++ places ++ puts ++ asks) ≡ sound ++ first ++ noAsk ++ shapes ++ places ++ puts ++ asks
-unfolding filled samePair joinsEnds present presentBoth lentWhole tableNo placeAt placing least roomInts roomFloats storeInts putInts storeFloats putFloats u16At u32At u64At costOf headAt absentAt linkAt floatLinkAt askAt kindAt recordAt headStep absentStep linkMay afterPut linkStep floatStep engineMay askStep oneStep loaded
+unfolding filled samePair joinsEnds present presentBoth lentWhole tableNo placeAt placing shorter roomInts roomFloats storeInts putInts storeFloats putFloats u16At u32At u64At costOf headAt absentAt linkAt floatLinkAt askAt kindAt recordAt headStep absentStep linkMay afterPut linkStep floatStep engineMay askStep oneStep loaded
 offsets = refl

@@ -20,7 +20,7 @@ use Rattle.table.proofs.Laws.{zip-at, zip-long}
 use Rattle.table.proofs.Joins.{Joined, joined, joins-of}
 use Rattle.table.proofs.Arcs.{arc-at, arc-in, arc-out}
 use Rattle.page.specs.Promise.{entry, Known, Holds, Meets}
-use Rattle.page.specs.Parts.{Marked, Near, Looked, free, lost, more, less, exact, Seen, Upto, Step}
+use Rattle.page.specs.Parts.{Marked, CanLook, ArcChecked, free, lost, more, less, exact, Seen, Upto, Step}
 
 -- the arcs of A, and one from a to b of cost e
 abbrev pub Plus : (ℕ → ℕ → ℤ → Type 0) → ℕ → ℕ → ℤ → ℕ → ℕ → ℤ → Type 0
@@ -80,7 +80,7 @@ module _ {page : List ℤ} where
         whole u v c (inr p) k q (no f) z = absurd (f (sym (p .1)))
 
     -- one arc more, as the code looks at it
-    pub seen-more : {met′ : List ℕ} {r : Bool} → b < length met → Looked page a b e met met′ r → r ≡ true → Seen (Plus A a b e) page met′
+    pub seen-more : {met′ : List ℕ} {r : Bool} → b < length met → ArcChecked page a b e met met′ r → r ≡ true → Seen (Plus A a b e) page met′
     seen-more h (free q k m) t = rw m (kept (λ j. absurd (j k)) (λ j z. j k))
     seen-more h (lost q k l m) t = absurd (clash t q)
     seen-more h (more q k w m) t = absurd (clash t q)
@@ -88,15 +88,15 @@ module _ {page : List ℤ} where
     seen-more h (exact q k l w m) t = rw m (marked h k l w)
 
   -- the marks keep their length
-  pub looked-length : {a b : ℕ} {e : ℤ} {met met′ : List ℕ} {r : Bool} → Looked page a b e met met′ r → length met′ ≡ length met
-  looked-length (free q k m) = ap length m
-  looked-length (lost q k l m) = ap length m
-  looked-length (more q k w m) = ap length m
-  looked-length (less q l w m) = ap length m
-  looked-length (exact q k l w m) = ap length m ∙ simp length-set
+  pub checked-length : {a b : ℕ} {e : ℤ} {met met′ : List ℕ} {r : Bool} → ArcChecked page a b e met met′ r → length met′ ≡ length met
+  checked-length (free q k m) = ap length m
+  checked-length (lost q k l m) = ap length m
+  checked-length (more q k w m) = ap length m
+  checked-length (less q l w m) = ap length m
+  checked-length (exact q k l w m) = ap length m ∙ simp length-set
 
   -- an arc that does not hold
-  pub breaks : {A : ℕ → ℕ → ℤ → Type 0} {a b : ℕ} {e : ℤ} {met met′ : List ℕ} {r : Bool} → A a b e → Looked page a b e met met′ r → r ≡ false → Holds A page → ⊥
+  pub breaks : {A : ℕ → ℕ → ℤ → Type 0} {a b : ℕ} {e : ℤ} {met met′ : List ℕ} {r : Bool} → A a b e → ArcChecked page a b e met met′ r → r ≡ false → Holds A page → ⊥
   breaks x (free q k m) t w = clash q t
   breaks {a} {b} {e} x (lost q k l m) t w = w a b e x k .0 l
   breaks {a} {b} {e} x (more q k n m) t w = let p : entry page b ≤ℤ entry page a ⊕ e = w a b e x k .1 in omega (arith, zed)
@@ -181,11 +181,11 @@ module _ {d : Bool} {m n : ℕ} {xs ys : List ℕ} {cs : List ℤ} {i : ℕ} {pa
   below = upto .ready .ends i h
 
   -- what looking at its arcs asks
-  pub near : Near page met a b
-  near = record { tail = omega (arith, below .0, upto .ready .paged); head = omega (arith, below .1, upto .ready .paged); mark = omega (arith, below .1, upto .ready .marked); ranged = upto .ranged a (below .0) }
+  pub can-look : CanLook page met a b
+  can-look = record { tail = omega (arith, below .0, upto .ready .paged); head = omega (arith, below .1, upto .ready .paged); mark = omega (arith, below .1, upto .ready .marked); ranged = upto .ranged a (below .0) }
 
-  near-back : {met′ : List ℕ} → length met′ ≡ length met → Near page met′ b a
-  near-back q = record { tail = omega (arith, below .1, upto .ready .paged); head = omega (arith, below .0, upto .ready .paged); mark = omega (arith, below .0, upto .ready .marked); ranged = upto .ranged b (below .1) }
+  can-look-back : {met′ : List ℕ} → length met′ ≡ length met → CanLook page met′ b a
+  can-look-back q = record { tail = omega (arith, below .1, upto .ready .paged); head = omega (arith, below .0, upto .ready .paged); mark = omega (arith, below .0, upto .ready .marked); ranged = upto .ranged b (below .1) }
 
   -- one link more
   grown : {met′ : List ℕ} → length met′ ≡ length met → Seen (Arc d (links (suc i) xs ys cs)) page met′ → Upto d m n xs ys cs (i + 1) page met′
@@ -198,28 +198,28 @@ module _ {d : Bool} {m n : ℕ} {xs ys : List ℕ} {cs : List ℤ} {i : ℕ} {pa
       }
 
   -- the code reads the cost as x
-  module _ {x : ℤ} {met′ : List ℕ} {r : Bool} (q : x ≡ e) (l : Looked page a b x met met′ r) where
+  module _ {x : ℤ} {met′ : List ℕ} {r : Bool} (q : x ≡ e) (l : ArcChecked page a b x met met′ r) where
     -- its first arc does not hold
     pub link-off : r ≡ false → Holds (Arc d (links n xs ys cs)) page → ⊥
     link-off t = breaks (rw q (forth d xs ys cs i inXs inYs inCs n h)) l t
 
     -- what looking at its second arc asks
-    pub link-back : Near page met′ b a
-    link-back = near-back (looked-length l)
+    pub link-back : CanLook page met′ b a
+    link-back = can-look-back (checked-length l)
 
     -- its first arc holds
     first : r ≡ true → Seen (Plus (Arc d (links i xs ys cs)) a b e) page met′
-    first t = rw q at (seen-more (upto .seen) (near .mark) l t)
+    first t = rw q at (seen-more (upto .seen) (can-look .mark) l t)
 
     -- that was all, if directed
     pub link-one : r ≡ true → d ≡ true → Upto d m n xs ys cs (i + 1) page met′
-    link-one t w = grown (looked-length l) (one-way d xs ys cs i inXs inYs inCs w (first t))
+    link-one t w = grown (checked-length l) (one-way d xs ys cs i inXs inYs inCs w (first t))
 
     -- else its second arc decides
-    pub link-both : {x′ : ℤ} {met″ : List ℕ} {r′ : Bool} → r ≡ true → d ≡ false → x′ ≡ e → Looked page b a x′ met′ met″ r′ → Step d m n xs ys cs i page met″ r′
+    pub link-both : {x′ : ℤ} {met″ : List ℕ} {r′ : Bool} → r ≡ true → d ≡ false → x′ ≡ e → ArcChecked page b a x′ met′ met″ r′ → Step d m n xs ys cs i page met″ r′
     link-both t w q′ l′ =
         record {
-          holds = λ k. grown (looked-length l′ ∙ looked-length l) (both-ways d xs ys cs i inXs inYs inCs w (rw q′ at (seen-more (first t) (link-back .mark) l′ k)));
+          holds = λ k. grown (checked-length l′ ∙ checked-length l) (both-ways d xs ys cs i inXs inYs inCs w (rw q′ at (seen-more (first t) (link-back .mark) l′ k)));
           fails = λ k. breaks (rw q′ (back d xs ys cs i inXs inYs inCs w n h)) l′ k;
         }
 

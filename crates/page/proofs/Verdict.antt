@@ -14,12 +14,12 @@ use Rattle.net.proofs.Nodes.{has-below}
 use Rattle.net.proofs.Same.{arc-below}
 use Rattle.net.proofs.Bounds.{whole-ints, long-ints}
 use Rattle.page.specs.Promise.{Starts, Ranged, Right, answerOf, Promise, good, bad}
-use Rattle.page.specs.Parts.{refusalNo, Decides, Shown, Seen, Upto, Ripe}
+use Rattle.page.specs.Parts.{refusalNo, Decides, MarkedWhereKnown, Seen, Upto, Ripe}
 use Rattle.page.proofs.Refusals.{passed}
 use Rattle.page.proofs.Marks.{seen-start, forth}
 
 -- the marks decide where the other three clauses hold
-pub verdict : {A : ℕ → ℕ → ℤ → Type 0} {m s : ℕ} {page : List ℤ} {met : List ℕ} {r : Bool} → Starts page s → Ranged m page → Seen A page met → Decides ((v : ℕ) → v < m → Shown s page met v) r → Decides (Right A m s page) r
+pub verdict : {A : ℕ → ℕ → ℤ → Type 0} {m s : ℕ} {page : List ℤ} {met : List ℕ} {r : Bool} → Starts page s → Ranged m page → Seen A page met → Decides ((v : ℕ) → v < m → MarkedWhereKnown s page met v) r → Decides (Right A m s page) r
 verdict z w seen t =
     record {
       holds = λ e. record { starts = z; holds = seen .holds; reached = λ v k n l. seen .sound v (t .holds e v k n l); ranged = w };

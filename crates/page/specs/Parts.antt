@@ -31,28 +31,28 @@ abbrev pub Marked : List ℕ → ℕ → Type 0
 Marked met v = getD met v 0 ≡ 0 → ⊥
 
 -- an index other than the source that has a distance is marked
-abbrev pub Shown : ℕ → List ℤ → List ℕ → ℕ → Type 0
-Shown s page met v = (v ≡ s → ⊥) → Known page v → Marked met v
+abbrev pub MarkedWhereKnown : ℕ → List ℤ → List ℕ → ℕ → Type 0
+MarkedWhereKnown s page met v = (v ≡ s → ⊥) → Known page v → Marked met v
 
 -- before an arc from u to v is looked at
-pub record Near (page : List ℤ) (met : List ℕ) (u v : ℕ) : Type 0 where
+pub record CanLook (page : List ℤ) (met : List ℕ) (u v : ℕ) : Type 0 where
   pub tail : u < length page
   pub head : v < length page
   pub mark : v < length met
   pub ranged : InRange (entry page u)
 
 -- one arc looked at: r tells whether it holds, and an index that is met exactly is marked
-pub data Looked (page : List ℤ) (u v : ℕ) (c : ℤ) (met met′ : List ℕ) (r : Bool) : Type 0 where
+pub data ArcChecked (page : List ℤ) (u v : ℕ) (c : ℤ) (met met′ : List ℕ) (r : Bool) : Type 0 where
   -- from an index without a distance
-  free : r ≡ true → entry page u ≡ noneI64 → met′ ≡ met → Looked page u v c met met′ r
+  free : r ≡ true → entry page u ≡ noneI64 → met′ ≡ met → ArcChecked page u v c met met′ r
   -- to an index without a distance
-  lost : r ≡ false → Known page u → entry page v ≡ noneI64 → met′ ≡ met → Looked page u v c met met′ r
+  lost : r ≡ false → Known page u → entry page v ≡ noneI64 → met′ ≡ met → ArcChecked page u v c met met′ r
   -- to one with more than distance plus cost
-  more : r ≡ false → Known page u → (entry page u ⊕ c) <ℤ entry page v → met′ ≡ met → Looked page u v c met met′ r
+  more : r ≡ false → Known page u → (entry page u ⊕ c) <ℤ entry page v → met′ ≡ met → ArcChecked page u v c met met′ r
   -- to one with less
-  less : r ≡ true → Known page v → entry page v <ℤ (entry page u ⊕ c) → met′ ≡ met → Looked page u v c met met′ r
+  less : r ≡ true → Known page v → entry page v <ℤ (entry page u ⊕ c) → met′ ≡ met → ArcChecked page u v c met met′ r
   -- to one that it meets exactly
-  exact : r ≡ true → Known page u → Known page v → entry page v ≡ entry page u ⊕ c → met′ ≡ set met v 1 → Looked page u v c met met′ r
+  exact : r ≡ true → Known page u → Known page v → entry page v ≡ entry page u ⊕ c → met′ ≡ set met v 1 → ArcChecked page u v c met met′ r
 
 -- all arcs of A looked at: they hold, and just the indices that one of them meets exactly are marked
 pub record Seen (A : ℕ → ℕ → ℤ → Type 0) (page : List ℤ) (met : List ℕ) : Type 0 where

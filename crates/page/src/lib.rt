@@ -7,7 +7,7 @@ ghost use Rattle.clean.specs.None.{noneI64};
 ghost use Rattle.table.specs.Links.{links, Arc};
 ghost use Rattle.net.specs.Net.{netOf};
 ghost use Rattle.page.specs.Promise.{entry, Known, InRange, Ranged, Right, answerOf, Promise};
-ghost use Rattle.page.specs.Parts.{refusalNo, Tells, Decides, Shown, Near, Looked, Upto, Step, Scanned, Ripe};
+ghost use Rattle.page.specs.Parts.{refusalNo, Tells, Decides, MarkedWhereKnown, CanLook, ArcChecked, Upto, Step, Scanned, Ripe};
 
 // What the check answers: its number, and yes or no.
 pub struct Checked {
@@ -87,8 +87,8 @@ fn all_in_range(m: usize, page: &[i64]) -> bool
 
 // Does an arc from u to v hold? Marks v where the arc meets it exactly.
 fn arc_holds(page: &[i64], met: &mut [u8], u: usize, v: usize, cost: i32) -> bool
-    requires { ⌜ Near (now page) (now met) u v ⌝ }
-    ensures { λ r. ⌜ Looked (now (page .entry)) u v cost (now (met .entry)) (now (met .exit)) r ⌝ }
+    requires { ⌜ CanLook (now page) (now met) u v ⌝ }
+    ensures { λ r. ⌜ ArcChecked (now (page .entry)) u v cost (now (met .entry)) (now (met .exit)) r ⌝ }
 {
     if !has_distance(page, u) {
         return true;
@@ -157,7 +157,7 @@ fn arcs_hold(
 // Is the index the source, or without a distance, or marked?
 fn is_met(source: usize, page: &[i64], met: &[u8], v: usize) -> bool
     requires { ⌜ (v < length (now page)) × (v < length (now met)) ⌝ }
-    ensures { λ r. ⌜ Decides (Shown source (now (page .entry)) (now (met .entry)) v) r ⌝ }
+    ensures { λ r. ⌜ Decides (MarkedWhereKnown source (now (page .entry)) (now (met .entry)) v) r ⌝ }
 {
     if v == source {
         return true;
@@ -171,7 +171,7 @@ fn is_met(source: usize, page: &[i64], met: &[u8], v: usize) -> bool
 // Is each of the first m indices the source, or without a distance, or marked?
 fn all_met(m: usize, source: usize, page: &[i64], met: &[u8]) -> bool
     requires { ⌜ (m ≤ length (now page)) × (m ≤ length (now met)) ⌝ }
-    ensures { λ r. ⌜ Decides ((v : ℕ) → v < m → Shown source (now (page .entry)) (now (met .entry)) v) r ⌝ }
+    ensures { λ r. ⌜ Decides ((v : ℕ) → v < m → MarkedWhereKnown source (now (page .entry)) (now (met .entry)) v) r ⌝ }
 {
     let mut v: usize = 0;
     while v < m {

@@ -17,7 +17,7 @@ use Rattle.bag.specs.Order.{pick}
 use Rattle.bag.proofs.Order.{self, below-below}
 use Rattle.pending.specs.Setting.{upd, Setting, isTarget, End, refused, ArcOf}
 use Rattle.pending.specs.Literal as Lit
-use Rattle.pending.specs.Literal.{Pair, State, After, goes, ends, done, least, others, above, better, store, look, row}
+use Rattle.pending.specs.Literal.{Pair, State, After, goes, ends, done, least, others, above, better, store, look, eachArc}
 use Rattle.pending.specs.OnePlace.{Cell, out, has, distOf, predOf, doneAt, begin, Takes, Next, Ends, empty, found, wrong, more}
 use Rattle.pending.specs.Laws.{Laws, OkCell}
 use Rattle.pending.proofs.Cells.{upd-id, upd-all}
@@ -31,9 +31,9 @@ pair d v = record { at = d; ix = v }
 
 module _ {K C : Type 0} (S : Setting K C) {ok : K → Type 0} (L : Laws S ok) where
   -- a pair of the list, beside its index's cell: it is the pending one, or above the index's distance
-  pub data Known (x : K) : Cell K → Type 0 where
-    live : {d : K} {p : Option ℕ} → x ≡ d → Known x (has d p true)
-    stale : {d : K} {p : Option ℕ} {b : Bool} → ok x → S .lt d x ≡ true → Known x (has d p b)
+  pub data LiveOrStale (x : K) : Cell K → Type 0 where
+    live : {d : K} {p : Option ℕ} → x ≡ d → LiveOrStale x (has d p true)
+    stale : {d : K} {p : Option ℕ} {b : Bool} → ok x → S .lt d x ≡ true → LiveOrStale x (has d p b)
 
   -- the two states tell the same
   pub record Sim (M : State K) (s : ℕ → Cell K) (n : ℕ) : Type 0 where
@@ -41,17 +41,17 @@ module _ {K C : Type 0} (S : Setting K C) {ok : K → Type 0} (L : Laws S ok) wh
     pub pred : (v : ℕ) → M .pred v ≡ predOf (s v)
     pub takes : M .takes ≡ n
     pub held : (v : ℕ) (d : K) (p : Option ℕ) → s v ≡ has d p true → List·Memᴰ (pair d v) (M .bag)
-    pub known : (q : Pair K) → List·Memᴰ q (M .bag) → Known (q .at) (s (q .ix))
+    pub known : (q : Pair K) → List·Memᴰ q (M .bag) → LiveOrStale (q .at) (s (q .ix))
     pub distinct : Distinct (M .bag)
     pub oks : (v : ℕ) → OkCell ok (s v)
 
   -- the key of a known pair is good
-  known-ok : {x : K} {c : Cell K} → OkCell ok c → Known x c → ok x
+  known-ok : {x : K} {c : Cell K} → OkCell ok c → LiveOrStale x c → ok x
   known-ok o (live e) = subst ok (sym e) o
   known-ok o (stale x e) = x
 
   -- a pair of an index that gets a smaller distance lies above it
-  older : {x n : K} {c : Cell K} → ok n → OkCell ok c → Known x c → better S n (distOf c) ≡ true → ok x × (S .lt n x ≡ true)
+  older : {x n : K} {c : Cell K} → ok n → OkCell ok c → LiveOrStale x c → better S n (distOf c) ≡ true → ok x × (S .lt n x ≡ true)
   older {x} {n} a o (live {d} e) b = (subst ok (sym e) o, ap (S .lt n) e ∙ b)
   older {x} {n} a o (stale {d} i e) b = (i, below-below (L .order) n d x a o i b e)
 
@@ -62,13 +62,13 @@ module _ {K C : Type 0} (S : Setting K C) {ok : K → Type 0} (L : Laws S ok) wh
     fresh m = clash (older n-ok (h .oks v) (h .known (pair n v) m) b .1) (self (L .order) n n-ok)
 
     -- pairs stay known
-    store-known : (q : Pair K) → (q ≡ pair n v) ⊎ List·Memᴰ q (M .bag) → Known (q .at) (upd s v (has n (some u) true) (q .ix))
+    store-known : (q : Pair K) → (q ≡ pair n v) ⊎ List·Memᴰ q (M .bag) → LiveOrStale (q .at) (upd s v (has n (some u) true) (q .ix))
     store-known q i = go (eqb (q .ix) v) (eqb-true (q .ix) v) (eqb-false (q .ix) v) i
       where
-        late : q .ix ≡ v → List·Memᴰ q (M .bag) → Known (q .at) (has n (some u) true)
-        late e m = let w = older n-ok (h .oks v) (subst (λ (z : ℕ). Known (q .at) (s z)) e (h .known q m)) b in stale (w .0) (w .1)
+        late : q .ix ≡ v → List·Memᴰ q (M .bag) → LiveOrStale (q .at) (has n (some u) true)
+        late e m = let w = older n-ok (h .oks v) (subst (λ (z : ℕ). LiveOrStale (q .at) (s z)) e (h .known q m)) b in stale (w .0) (w .1)
 
-        go : (t : Bool) → (t ≡ true → q .ix ≡ v) → (t ≡ false → q .ix ≡ v → ⊥) → (q ≡ pair n v) ⊎ List·Memᴰ q (M .bag) → Known (q .at) (pick t (has n (some u) true) (s (q .ix)))
+        go : (t : Bool) → (t ≡ true → q .ix ≡ v) → (t ≡ false → q .ix ≡ v → ⊥) → (q ≡ pair n v) ⊎ List·Memᴰ q (M .bag) → LiveOrStale (q .at) (pick t (has n (some u) true) (s (q .ix)))
         go true f g (inl e) = live (ap (λ (z : Pair K). z .at) e)
         go true f g (inr m) = late (f refl) m
         go false f g (inl e) = absurd (g refl (ap (λ (z : Pair K). z .ix) e))
@@ -129,8 +129,8 @@ module _ {K C : Type 0} (S : Setting K C) {ok : K → Type 0} (L : Laws S ok) wh
   RowOut u d l s k (ends e) = (v : ℕ) × (c : C) × List·Memᴰ (v, c) l × (S .bad c ≡ true) × (e ≡ refused k)
 
   -- 01's row goes on as the cells do, or stops at a bad cost; and it stops exactly where there is one
-  pub row-sim : (u : ℕ) (d : K) (l : List (ℕ × C)) (M : State K) (s : ℕ → Cell K) (k : ℕ) → ok d → Sim M s k → RowOut u d l s k (row S u d l M)
-  unfolding row rowCells
+  pub row-sim : (u : ℕ) (d : K) (l : List (ℕ × C)) (M : State K) (s : ℕ → Cell K) (k : ℕ) → ok d → Sim M s k → RowOut u d l s k (eachArc S u d l M)
+  unfolding eachArc rowCells
   row-sim u d [] M s k o h = (λ v c m. absurd (List·Memᴰ·not-nil m), h)
   row-sim u d (a ∷ l) M s k o h = go (S .bad (a .1)) refl (λ f. row-sim u d l (look S u d (a .0) (a .1) M) (lookAt S u d (a .0) (a .1) s) k o (look-sim u d (a .0) (a .1) M s k o f h))
     where
@@ -142,10 +142,10 @@ module _ {K C : Type 0} (S : Setting K C) {ok : K → Type 0} (L : Laws S ok) wh
       lift (goes N) e w = (λ v c m. all (w .0) e v c (List·Memᴰ·cases-cons m), w .1)
       lift (ends f) e w = (w .0, w .1, List·Memᴰ·tail (w .2), w .3, w .4)
 
-      go : (t : Bool) → S .bad (a .1) ≡ t → (S .bad (a .1) ≡ false → RowOut u d l (lookAt S u d (a .0) (a .1) s) k (row S u d l (look S u d (a .0) (a .1) M)))
-          → RowOut u d (a ∷ l) s k (elim t as (λ x. After K) [ true ↦ ends (refused (M .takes)) | false ↦ row S u d l (look S u d (a .0) (a .1) M) ])
+      go : (t : Bool) → S .bad (a .1) ≡ t → (S .bad (a .1) ≡ false → RowOut u d l (lookAt S u d (a .0) (a .1) s) k (eachArc S u d l (look S u d (a .0) (a .1) M)))
+          → RowOut u d (a ∷ l) s k (elim t as (λ x. After K) [ true ↦ ends (refused (M .takes)) | false ↦ eachArc S u d l (look S u d (a .0) (a .1) M) ])
       go true e f = (a .0, a .1, List·Memᴰ·head refl, e, ap refused (h .takes))
-      go false e f = lift (row S u d l (look S u d (a .0) (a .1) M)) e (f e)
+      go false e f = lift (eachArc S u d l (look S u d (a .0) (a .1) M)) e (f e)
 
   -- ---- a take: q is the least pair, r the others, and q is the pending one of its index
   module _ (M : State K) (s : ℕ → Cell K) (k : ℕ) (h : Sim M s k) (b : Pair K) (l : List (Pair K)) (is : M .bag ≡ b ∷ l) where
@@ -214,17 +214,17 @@ module _ {K C : Type 0} (S : Setting K C) {ok : K → Type 0} (L : Laws S ok) wh
           go false f e = other (f refl) (held-or v d z e)
 
       -- the other pairs stay known
-      pop-known : (r : Pair K) → List·Memᴰ r (others S b l) → Known (r .at) (upd s (least S b l .ix) (has (least S b l .at) p false) (r .ix))
+      pop-known : (r : Pair K) → List·Memᴰ r (others S b l) → LiveOrStale (r .at) (upd s (least S b l .ix) (has (least S b l .at) p false) (r .ix))
       pop-known r m = go (eqb (r .ix) (least S b l .ix)) (eqb-true (r .ix) (least S b l .ix))
         where
-          not-live : {x : K} {c : Cell K} → Known x c → c ≡ has (least S b l .at) p true → (x ≡ least S b l .at → ⊥) → Known x (has (least S b l .at) p false)
+          not-live : {x : K} {c : Cell K} → LiveOrStale x c → c ≡ has (least S b l .at) p true → (x ≡ least S b l .at → ⊥) → LiveOrStale x (has (least S b l .at) p false)
           not-live (live {d} {p = z} e) f g = absurd (g (let y : d ≡ least S b l .at = cc in e ∙ y))
           not-live {x} (stale {d} {p = z} i e) f g = let y : d ≡ least S b l .at = cc in stale i (ap (λ (w : K). S .lt w x) (sym y) ∙ e)
 
-          own : r .ix ≡ least S b l .ix → Known (r .at) (has (least S b l .at) p false)
+          own : r .ix ≡ least S b l .ix → LiveOrStale (r .at) (has (least S b l .at) p false)
           own e = not-live (h .known r (in-bag (others-in S b l m))) (ap s e ∙ here) (λ g. all-distinct .0 (Memᴰ·cast (λ i. pair (sym g i) (sym e i)) m))
 
-          go : (t : Bool) → (t ≡ true → r .ix ≡ least S b l .ix) → Known (r .at) (pick t (has (least S b l .at) p false) (s (r .ix)))
+          go : (t : Bool) → (t ≡ true → r .ix ≡ least S b l .ix) → LiveOrStale (r .at) (pick t (has (least S b l .at) p false) (s (r .ix)))
           go true f = own (f refl)
           go false f = h .known r (in-bag (others-in S b l m))
 
@@ -286,14 +286,14 @@ module _ {K C : Type 0} (S : Setting K C) {ok : K → Type 0} (L : Laws S ok) wh
           rowed (ends e) f w = subst (λ (z : End K). Ends S (ArcOf arcs) s k z) (sym (w .4)) (wrong (least S b l .ix) (least S b l .at) p tk f (w .0) (w .1) (w .2) (w .3))
 
           aim : (t : Bool) → isTarget (S .target) (least S b l .ix) ≡ t
-              → Outcome s k (suc (length l)) (elim t as (λ x. After K) [ true ↦ ends (done (popped M s k h b l is)) | false ↦ row S (least S b l .ix) (least S b l .at) (arcs (least S b l .ix)) (popped M s k h b l is) ])
+              → Outcome s k (suc (length l)) (elim t as (λ x. After K) [ true ↦ ends (done (popped M s k h b l is)) | false ↦ eachArc S (least S b l .ix) (least S b l .at) (arcs (least S b l .ix)) (popped M s k h b l is) ])
           aim true f = subst (λ (z : End K). Ends S (ArcOf arcs) s k z) (sym (done-is h (suc (M .takes)) ∙ ap (λ (z : ℕ). doneAt s (suc z)) (h .takes))) (found (least S b l .ix) (least S b l .at) p tk f)
           aim false f =
-              rowed (row S (least S b l .ix) (least S b l .at) (arcs (least S b l .ix)) (popped M s k h b l is)) f
+              rowed (eachArc S (least S b l .ix) (least S b l .at) (arcs (least S b l .ix)) (popped M s k h b l is)) f
               (row-sim (least S b l .ix) (least S b l .at) (arcs (least S b l .ix)) (popped M s k h b l is) (upd s (least S b l .ix) (has (least S b l .at) p false)) (suc k) (q-ok M s k h b l is p here) (pop-sim M s k h b l is p here))
 
       -- the test for a drop, at what the cell has
-      sorts : (c : Cell K) → s (least S b l .ix) ≡ c → Known (least S b l .at) c
+      sorts : (c : Cell K) → s (least S b l .ix) ≡ c → LiveOrStale (least S b l .at) c
           → Outcome s k (suc (length l)) (elim (above S (least S b l .at) (distOf c)) as (λ x. After K) [ true ↦ goes (dropped M s k h b l is) | false ↦ Lit.keep S arcs (least S b l) (popped M s k h b l is) ])
       sorts c e (live {d} {p} f) =
           let o : ok d = cell-ok ok e (h .oks (least S b l .ix)) in
@@ -376,9 +376,9 @@ module _ {K C : Type 0} (S : Setting K C) {ok : K → Type 0} (L : Laws S ok) wh
       h-go v d p true f e = let q : d ≡ S .zero = cc in List·Memᴰ·head (λ i. pair (q i) (f refl i))
       h-go v d p false f e = absurd (let z : _≡_ {A = ℕ} 0 1 = cc in omega arith)
 
-      k-go : (q : Pair K) → (q ≡ pair (S .zero) (S .source)) ⊎ List·Memᴰ q [] → Known (q .at) (upd (λ v. out) (S .source) (has (S .zero) none true) (q .ix))
+      k-go : (q : Pair K) → (q ≡ pair (S .zero) (S .source)) ⊎ List·Memᴰ q [] → LiveOrStale (q .at) (upd (λ v. out) (S .source) (has (S .zero) none true) (q .ix))
       k-go q (inr m) = absurd (List·Memᴰ·not-nil m)
-      k-go q (inl e) = subst (λ (t : Bool). Known (q .at) (pick t (has (S .zero) none true) out)) (sym (eq-eqb (q .ix) (S .source) (ap (λ (z : Pair K). z .ix) e))) (live (ap (λ (z : Pair K). z .at) e))
+      k-go q (inl e) = subst (λ (t : Bool). LiveOrStale (q .at) (pick t (has (S .zero) none true) out)) (sym (eq-eqb (q .ix) (S .source) (ap (λ (z : Pair K). z .ix) e))) (live (ap (λ (z : Pair K). z .at) e))
 
   -- the two bags end alike
   pub same-ends : (arcs : ℕ → List (ℕ × C)) (e : End K) → (Lit.Ends S arcs (Lit.start S) e → Ends S (ArcOf arcs) (begin S) 0 e) × (Ends S (ArcOf arcs) (begin S) 0 e → Lit.Ends S arcs (Lit.start S) e)

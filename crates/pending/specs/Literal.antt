@@ -66,14 +66,14 @@ module _ {K C : Type 0} (S : Setting K C) where
   look u d v c s = pick (S .cut (S .plus d c)) s (pick (better (S .plus d c) (s .dist v)) (store u v (S .plus d c) s) s)
 
   -- "for each arc to v": a bad cost ends it with 6
-  unfoldable pub row : ℕ → K → List (ℕ × C) → State K → After K
-  row u d [] s = goes s
-  row u d (a ∷ l) s = elim (S .bad (a .1)) [ true ↦ ends (refused (s .takes)) | false ↦ row u d l (look u d (a .0) (a .1) s) ]
+  unfoldable pub eachArc : ℕ → K → List (ℕ × C) → State K → After K
+  eachArc u d [] s = goes s
+  eachArc u d (a ∷ l) s = elim (S .bad (a .1)) [ true ↦ ends (refused (s .takes)) | false ↦ eachArc u d l (look u d (a .0) (a .1) s) ]
 
   module _ (arcs : ℕ → List (ℕ × C)) where
     -- a pair taken and not dropped: "A* also stops when the pair taken is the target's, before looking at its arcs"
     unfoldable pub keep : Pair K → State K → After K
-    keep p s = elim (isTarget (S .target) (p .ix)) [ true ↦ ends (done s) | false ↦ row (p .ix) (p .at) (arcs (p .ix)) s ]
+    keep p s = elim (isTarget (S .target) (p .ix)) [ true ↦ ends (done s) | false ↦ eachArc (p .ix) (p .at) (arcs (p .ix)) s ]
 
     -- "Drop it if the distance in its key is above the index's present one. Otherwise, .."
     unfoldable pub visit : Pair K → State K → After K
@@ -95,6 +95,6 @@ module _ {K C : Type 0} (S : Setting K C) where
 
     -- the same by computation, with fuel
     unfoldable pub run : ℕ → State K → Option (End K)
-    unfolding turn takeFrom visit keep row look least others before
+    unfolding turn takeFrom visit keep eachArc look least others before
     run zero s = none
     run (suc n) s = elim (turn s) [ goes t ↦ run n t | ends e ↦ some e ]

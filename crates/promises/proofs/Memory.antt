@@ -222,7 +222,7 @@ module _ (g : Net FloatCost) (s : ℕ) (k : Cutoff) (b b′ : search.Buffers) wh
 -- ---- `a_star`
 module _ (g : Net ℤ) (q : star.Question) (b b′ : star.Buffers) where
   star-left : (l : List ℕ) → aStarUsed (g .bound) (sizeOf g) (star.left (g .bound) (sizeOf g) b l) ≡ aStarUsed (g .bound) (sizeOf g) (star.left (g .bound) (sizeOf g) b′ l)
-  unfolding star.written filled
+  unfolding star.atFront filled
   star-left l =
       let m = g .bound in
       λ i. (part-path m noneU32 l (drop m (b .path)) (drop m (b′ .path)) i, rows-wiped g (pos 0) (b .scratch .rows) (b′ .scratch .rows) i, memory-wiped m (b .scratch .memory) (b′ .scratch .memory) i)

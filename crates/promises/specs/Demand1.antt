@@ -37,12 +37,12 @@ pub record Row : Type 1 where
   pub leaves : Type 0
 
 -- such a row from its parts
-abbrev pub row : ℕ → Type 0 → Type 0 → Row
-row n c l = record { number = n; when = c; leaves = l }
+abbrev pub numbered : ℕ → Type 0 → Type 0 → Row
+numbered n c l = record { number = n; when = c; leaves = l }
 
 -- the last row: none of the conditions before it holds
 abbrev pub done : Type 0 → Row
-done l = row 0 Unit l
+done l = numbered 0 Unit l
 
 -- the rows are looked at in their order: the number is that of the first row whose condition holds, and the buffers hold what that row says
 abbrev pub Follows : List Row → ℕ → Type 0
@@ -59,9 +59,9 @@ OneOf (r ∷ rs) n = (n ≡ r .number) ⊎ OneOf rs n
 module _ {C : Type 0} (d : Bool) (m room : ℕ) (marks : List ℕ) (u v n : ℕ) (ls : List (Link C)) (same : ℕ → Type 0) (replaced : ℕ → Type 0) (added : Type 0) where
   abbrev pub putRows : List Row
   putRows =
-      row 1 (lentWhole m n room marks ≡ false) (same 1)
-      ∷ row 2 ((allInside m marks (take n ls) ≡ false) ⊎ (presentBoth m marks u v ≡ false)) (same 2)
-      ∷ row 8 ((n ≤ placeOf d u v (take n ls)) × (n ≡ room)) (same 8)
+      numbered 1 (lentWhole m n room marks ≡ false) (same 1)
+      ∷ numbered 2 ((allInside m marks (take n ls) ≡ false) ⊎ (presentBoth m marks u v ≡ false)) (same 2)
+      ∷ numbered 8 ((n ≤ placeOf d u v (take n ls)) × (n ≡ room)) (same 8)
       ∷ done (((placeOf d u v (take n ls) < n) × replaced (placeOf d u v (take n ls))) ⊎ ((n ≤ placeOf d u v (take n ls)) × added))
       ∷ []
 
@@ -80,29 +80,29 @@ floatsRows d m marks r n xs ys bs os e =
 -- ---- `dijkstra`: 1, 2, 3, 6, 0
 abbrev pub dijkstraRows : Net ℤ → ℕ → dijkstra.Buffers → dijkstra.Buffers → List Row
 dijkstraRows g s b e =
-    row 1 (dijkstra.enough g b ≡ false) (e ≡ b)
-    ∷ row 2 (insideNet g ≡ false) (e ≡ b)
-    ∷ row 3 (has g s ≡ false) (e ≡ b)
-    ∷ row 6 (BadInReach (ArcOf g) s) (e ≡ dijkstra.blank g b)
+    numbered 1 (dijkstra.enough g b ≡ false) (e ≡ b)
+    ∷ numbered 2 (insideNet g ≡ false) (e ≡ b)
+    ∷ numbered 3 (has g s ≡ false) (e ≡ b)
+    ∷ numbered 6 (BadInReach (ArcOf g) s) (e ≡ dijkstra.blank g b)
     ∷ done (Kept (g .bound) (b .dist) (e .dist) × (e .scratch ≡ dijkstra.clear g b))
     ∷ []
 
 -- ---- `dijkstra_path_impl`, `dijkstra_path_f64`: 1, 2, 3, 6, 0
 abbrev pub dijkstraPathRows : Net FloatCost → ℕ → Cutoff → search.Buffers → search.Buffers → List Row
 dijkstraPathRows g s k b e =
-    row 1 (search.enough g b ≡ false) (e ≡ b)
-    ∷ row 2 (insideNet g ≡ false) (e ≡ b)
-    ∷ row 3 (has g s ≡ false) (e ≡ b)
-    ∷ row 6 ((x : End Float) × search.EndsIn g s k x × (x .number ≡ 6)) (e ≡ search.blank g b)
+    numbered 1 (search.enough g b ≡ false) (e ≡ b)
+    ∷ numbered 2 (insideNet g ≡ false) (e ≡ b)
+    ∷ numbered 3 (has g s ≡ false) (e ≡ b)
+    ∷ numbered 6 ((x : End Float) × search.EndsIn g s k x × (x .number ≡ 6)) (e ≡ search.blank g b)
     ∷ done (Kept (g .bound) (b .dist) (e .dist) × Kept (g .bound) (b .preds) (e .preds) × (e ≡ search.left g b (e .dist) (e .preds)))
     ∷ []
 
 -- ---- `bellman_ford`: 1, 2, 7, 0
 abbrev pub bellmanFordRows : Net ℤ → ℕ → bellman.Buffers → bellman.Buffers → List Row
 bellmanFordRows g s b e =
-    row 1 (bellman.enough g b ≡ false) (e ≡ b)
-    ∷ row 2 (insideNet g ≡ false) (e ≡ b)
-    ∷ row 7 ((has g s ≡ true) × NegativeFrom (ArcOf g) s) (e ≡ bellman.blank g b)
+    numbered 1 (bellman.enough g b ≡ false) (e ≡ b)
+    ∷ numbered 2 (insideNet g ≡ false) (e ≡ b)
+    ∷ numbered 7 ((has g s ≡ true) × NegativeFrom (ArcOf g) s) (e ≡ bellman.blank g b)
     ∷ done (Kept (g .bound) (b .dist) (e .dist) × (e .scratch ≡ bellman.clear g b))
     ∷ []
 
@@ -110,26 +110,26 @@ bellmanFordRows g s b e =
 -- once the search was run: an arc below zero was looked at, or the path l stands in front, none after it, and its length is given
 abbrev pub aStarRan : Net ℤ → star.Question → star.Buffers → star.Buffers → star.Answer → List Row
 aStarRan g q b e r =
-    row 6 ((k : ℕ) × Ends (star.searchOf q) (ArcOf g) (begin (star.searchOf q)) 0 (refused k)) ((r ≡ star.without 6) × (e ≡ star.left (g .bound) (sizeOf g) b []))
+    numbered 6 ((k : ℕ) × Ends (star.searchOf q) (ArcOf g) (begin (star.searchOf q)) 0 (refused k)) ((r ≡ star.without 6) × (e ≡ star.left (g .bound) (sizeOf g) b []))
     ∷ done ((l : List ℕ) × (length l ≤ width g) × (r .length ≡ length l) × (e ≡ star.left (g .bound) (sizeOf g) b l))
     ∷ []
 
 -- all its rows
 abbrev pub aStarRows : Net ℤ → star.Question → star.Buffers → star.Buffers → star.Answer → List Row
 aStarRows g q b e r =
-    row 1 (star.enough g q b ≡ false) ((r ≡ star.without 1) × (e ≡ b))
-    ∷ row 2 (insideNet g ≡ false) ((r ≡ star.without 2) × (e ≡ b))
-    ∷ row 3 (has g (q .source) ≡ false) ((r ≡ star.without 3) × (e ≡ b))
-    ∷ row 4 (has g (q .target) ≡ false) ((r ≡ star.without 4) × (e ≡ b))
-    ∷ row 5 (star.fairGuess g (q .guess) ≡ false) ((r ≡ star.without 5) × (e ≡ b))
+    numbered 1 (star.enough g q b ≡ false) ((r ≡ star.without 1) × (e ≡ b))
+    ∷ numbered 2 (insideNet g ≡ false) ((r ≡ star.without 2) × (e ≡ b))
+    ∷ numbered 3 (has g (q .source) ≡ false) ((r ≡ star.without 3) × (e ≡ b))
+    ∷ numbered 4 (has g (q .target) ≡ false) ((r ≡ star.without 4) × (e ≡ b))
+    ∷ numbered 5 (star.fairGuess g (q .guess) ≡ false) ((r ≡ star.without 5) × (e ≡ b))
     ∷ aStarRan g q b e r
 
 -- ---- all pairs: 1, 2, 7, 0. `long` says that nothing is too short; `clear` is the lent scratch with zero in the part needed
 abbrev pub matrixRows : {S : Type 0} → Net ℤ → Bool → S → S → S → List ℤ → List ℤ → List Row
 matrixRows g long lent clear left before after =
-    row 1 (long ≡ false) ((after ≡ before) × (left ≡ lent))
-    ∷ row 2 (insideNet g ≡ false) ((after ≡ before) × (left ≡ lent))
-    ∷ row 7 (Negative (ArcOf g)) ((after ≡ filled (square g) noneI64 before) × (left ≡ clear))
+    numbered 1 (long ≡ false) ((after ≡ before) × (left ≡ lent))
+    ∷ numbered 2 (insideNet g ≡ false) ((after ≡ before) × (left ≡ lent))
+    ∷ numbered 7 (Negative (ArcOf g)) ((after ≡ filled (square g) noneI64 before) × (left ≡ clear))
     ∷ done (Kept (square g) before after × (left ≡ clear))
     ∷ []
 
@@ -144,16 +144,16 @@ johnsonRows g m s m′ s′ = matrixRows g (johnson.enough g m s) s (johnson.wip
 -- ---- `hops`, `hops_f64`: 1, 2, 0, for either kind of map; p is the length of the node list, 0 after a refusal
 abbrev pub hopsRows : {C : Type 0} → Net C → hops.Buffers → hops.Buffers → ℕ → List Row
 hopsRows g b e p =
-    row 1 (hops.enough g b ≡ false) ((p ≡ 0) × (e ≡ b))
-    ∷ row 2 (insideNet g ≡ false) ((p ≡ 0) × (e ≡ b))
+    numbered 1 (hops.enough g b ≡ false) ((p ≡ 0) × (e ≡ b))
+    ∷ numbered 2 (insideNet g ≡ false) ((p ≡ 0) × (e ≡ b))
     ∷ done ((p ≡ width g) × Kept (width g * width g) (b .matrix) (e .matrix) × (e ≡ hops.left g b (e .matrix)))
     ∷ []
 
 -- ---- the page check: 1, 2, 3, 0. It is lent nothing that it may write; after a refusal it says no, else yes exactly of a page that is right
 abbrev pub pageRows : Net ℤ → ℕ → List ℤ → page.Answer → List Row
 pageRows g s l a =
-    row 1 (page.enough g l ≡ false) (a .yes ≡ false)
-    ∷ row 2 (insideNet g ≡ false) (a .yes ≡ false)
-    ∷ row 3 (has g s ≡ false) (a .yes ≡ false)
+    numbered 1 (page.enough g l ≡ false) (a .yes ≡ false)
+    ∷ numbered 2 (insideNet g ≡ false) (a .yes ≡ false)
+    ∷ numbered 3 (has g s ≡ false) (a .yes ≡ false)
     ∷ done ((a .yes ≡ true) ↔ page.Right (ArcOf g) (g .bound) s l)
     ∷ []

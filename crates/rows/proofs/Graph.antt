@@ -24,7 +24,7 @@ read f A u j l o h e =
 
 -- the place of u's row that was read is an arc
 pub here : {C : Type 0} (m : ℕ) (nb : Lists C) (u at : ℕ) (o : C) → u < m → getD (nb .offsets) u 0 ≤ at → at < getD (nb .offsets) (u + 1) 0 → at < length (nb .weights) → RowArc m nb u (getD (nb .heads) at 0) (getD (nb .weights) at o)
-here m nb u at o h p q l = record { at = at; row = h; from = p; to = q; head = refl; cost = λ x. no-default (nb .weights) at x o l }
+here m nb u at o h p q l = record { at = at; index = h; from = p; to = q; head = refl; cost = λ x. no-default (nb .weights) at x o l }
 
 module _ {C : Type 0} {m : ℕ} {s₀ nb : Lists C} where
   module _ {A : List (Link C)} (r : Rows A m s₀ nb) where
@@ -59,16 +59,16 @@ module _ {C : Type 0} {m : ℕ} {s₀ nb : Lists C} where
 
     pub arc-of : (u v : ℕ) (c : C) → RowArc m nb u v c → Arc d ls u v c
     arc-of u v c a =
-        let lo : starts A u ≤ a .at = subst (λ (x : ℕ). x ≤ a .at) (r .start u (omega (arith, a .row))) (a .from) in
-        let hi : a .at < starts A (u + 1) = subst (λ (x : ℕ). a .at < x) (r .start (u + 1) (omega (arith, a .row))) (a .to) in
+        let lo : starts A u ≤ a .at = subst (λ (x : ℕ). x ≤ a .at) (r .start u (omega (arith, a .index))) (a .from) in
+        let hi : a .at < starts A (u + 1) = subst (λ (x : ℕ). a .at < x) (r .start (u + 1) (omega (arith, a .index))) (a .to) in
         let j : ℕ = a .at - starts A u in
         let e : starts A u + j ≡ a .at = omega arith in
         let k : j < length (row u A) = omega (arith, start-next r u) in
         arc-row d ls u v c .1 (record {
           at = j;
           within = k;
-          head = λ o. ap (λ (x : Link C). x .b) (no-default (row u A) j o (linkOf 0 0 c) k) ∙ (sym (head-at r u j c (a .row) k) ∙ (ap (λ (i : ℕ). getD (nb .heads) i 0) e ∙ a .head));
-          cost = λ o. ap (λ (x : Link C). x .cost) (no-default (row u A) j o (linkOf 0 0 c) k) ∙ (sym (cost-at r u j c (a .row) k) ∙ (ap (λ (i : ℕ). getD (nb .weights) i c) e ∙ a .cost c));
+          head = λ o. ap (λ (x : Link C). x .b) (no-default (row u A) j o (linkOf 0 0 c) k) ∙ (sym (head-at r u j c (a .index) k) ∙ (ap (λ (i : ℕ). getD (nb .heads) i 0) e ∙ a .head));
+          cost = λ o. ap (λ (x : Link C). x .cost) (no-default (row u A) j o (linkOf 0 0 c) k) ∙ (sym (cost-at r u j c (a .index) k) ∙ (ap (λ (i : ℕ). getD (nb .weights) i c) e ∙ a .cost c));
         })
 
     pub row-of : (u v : ℕ) (c : C) → u < m → Arc d ls u v c → RowArc m nb u v c
@@ -76,7 +76,7 @@ module _ {C : Type 0} {m : ℕ} {s₀ nb : Lists C} where
         let i = arc-row d ls u v c .0 w in
         record {
           at = starts A u + i .at;
-          row = h;
+          index = h;
           from = subst (λ (x : ℕ). x ≤ starts A u + i .at) (sym (r .start u (omega arith))) (omega arith);
           to = subst (λ (x : ℕ). starts A u + i .at < x) (sym (r .start (u + 1) (omega arith))) (omega (arith, start-next r u, i .within));
           head = head-at r u (i .at) c h (i .within) ∙ i .head (linkOf 0 0 c);

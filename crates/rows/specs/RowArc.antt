@@ -8,7 +8,7 @@ use Rattle.rows.specs.Rows.{Lists}
 -- an arc of the neighbour list: a place of u's row, its head, and its weight, whatever o is read past the end
 pub record RowArc {C : Type 0} (m : ℕ) (nb : Lists C) (u v : ℕ) (c : C) : Type 0 where
   pub at : ℕ
-  pub row : u < m
+  pub index : u < m
   pub from : getD (nb .offsets) u 0 ≤ at
   pub to : at < getD (nb .offsets) (u + 1) 0
   pub head : getD (nb .heads) at 0 ≡ v

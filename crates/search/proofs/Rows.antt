@@ -21,20 +21,20 @@ use Rattle.search.proofs.Ints.{lawful}
 module _ (h : List ℤ) {m : ℕ} {nb : Lists ℤ} {u k : ℕ} {M₀ : Memory ℤ} (o : Opens (guided h) m nb u k M₀) {d : ℤ} (read : d ≡ getD (M₀ .dist) u (pos 0)) where
   -- u's entry, whatever stands for a missing one
   pub entry-is : d ≡ getD (M₀ .dist) u noneI64
-  entry-is = read ∙ no-default (M₀ .dist) u (pos 0) noneI64 (omega (arith, o .row, o .good .longD))
+  entry-is = read ∙ no-default (M₀ .dist) u (pos 0) noneI64 (omega (arith, o .index, o .good .longD))
 
   -- the arc at place i
   module _ {i n : ℕ} {M : Memory ℤ} (r : Row (guided h) m nb u d i n M₀ M) (l : i < getD (nb .offsets) (u + 1) 0) {v : ℕ} (vi : v ≡ getD (nb .heads) i 0) {c : ℤ} (ci : c ≡ getD (nb .weights) i (pos 0))
       (not-below : ltZ (getD (nb .weights) i (pos 0)) (pos 0) ≡ false) where
     cost : (z : ℤ) → getD (nb .weights) i z ≡ c
-    cost z = cost-here (pos 0) (o .rows) (o .row) l z ∙ sym ci
+    cost z = cost-here (pos 0) (o .rows) (o .index) l z ∙ sym ci
 
     fine : ltZ c (pos 0) ≡ false
     fine = ap (λ (z : ℤ). ltZ z (pos 0)) ci ∙ not-below
 
     -- what it asks
     pub arc-safe : RowInRange m h nb u (getD (M₀ .dist) u noneI64) → Safe (guided h) u d v c n M × InRange h d v c
-    arc-safe near = (row-safe (lawful h) o entry-is r l vi cost fine, subst (λ (z : ℤ). InRange h z v c) (sym entry-is) (near v c (arc-here (o .row) (r .from) l vi cost)))
+    arc-safe near = (row-safe (lawful h) o entry-is r l vi cost fine, subst (λ (z : ℤ). InRange h z v c) (sym entry-is) (near v c (arc-here (o .index) (r .from) l vi cost)))
 
     -- what it leaves
     pub arc-next : {M′ : Memory ℤ} {n′ : ℕ} → Looked (guided h) u d v c n M M′ n′ → length (M′ .places) ≡ length (M .places) → Row (guided h) m nb u d (i + 1) n′ M₀ M′

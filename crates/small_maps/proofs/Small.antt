@@ -21,7 +21,7 @@ use Rattle.walks.specs.Walk.{Walk, stay, step, NoNeg, NegativeFrom, Negative, E
 use Rattle.walks.proofs.Walk.{arc, anywhere}
 use Rattle.pending.specs.Reach.{BadInReach}
 use Rattle.table.specs.Links.{linkOf, present, presentBoth, lentWhole}
-use Rattle.table.specs.Lent.{least, roomInts}
+use Rattle.table.specs.Lent.{shorter, roomInts}
 use Rattle.table.proofs.Joins.{joins-of}
 use Rattle.table.proofs.Small as Table
 use Rattle.net.specs.Net.{ArcOf, wholeNet, arcRoom}
@@ -242,7 +242,7 @@ a-star-few = AStar.buffersOf few few few fewI fewI few few few fewI
 
 -- ---- the statement
 pub small-maps : SmallMaps
-unfolding filled present presentBoth lentWhole least roomInts arcRoom hasRoom hasMemory Dijkstra.longEnough BellmanFord.longEnough FloydWarshall.enough Johnson.longEnough AStar.longEnough
+unfolding filled present presentBoth lentWhole shorter roomInts arcRoom hasRoom hasMemory Dijkstra.longEnough BellmanFord.longEnough FloydWarshall.enough Johnson.longEnough AStar.longEnough
 small-maps = record {
   s1 = λ d marks xs ys cs. ((([], []), empty-long d marks xs ys cs), λ b e no long p. pairs-zero refl [] (none-negative (empty-up d marks xs ys cs)) (empty-matrix d marks xs ys cs (b .0)) p long);
   s2-dijkstra = ((dijkstra-few, refl), dijkstra-six (loop (negsuc 0)) 0 refl refl loop-bad);

@@ -16,7 +16,7 @@ use lib.Dec.{leb, ltb, eqb}
 use lib.IntN.{ℤ}
 use lib.ListN.{length, getD, take}
 use Rattle.table.specs.Links.{Link, linkOf, samePair, present, presentBoth, zip3, ends, inside, allInside, lentWhole, tableNo, joinsEnds, placeOf, FirstPlace, Place, placeNow, placeAt, placing}
-use Rattle.table.specs.Lent.{least, roomEnds, roomInts, roomFloats, floatCosts}
+use Rattle.table.specs.Lent.{shorter, roomEnds, roomInts, roomFloats, floatCosts}
 
 -- both parts of a conjunction
 pub and-left : (x y : Bool) → (x && y) ≡ true → x ≡ true
@@ -28,30 +28,30 @@ and-right true y e = e
 and-right false y e = absurd (let z : _≡_ {A = ℕ} 0 1 = cc in omega arith)
 
 -- the smaller of two sizes
-pub least-left : (x y : ℕ) → least x y ≤ x
-unfolding least
-least-left x y = go (ltb y x) refl
+pub shorter-left : (x y : ℕ) → shorter x y ≤ x
+unfolding shorter
+shorter-left x y = go (ltb y x) refl
   where
     go : (t : Bool) → ltb y x ≡ t → cond t y x ≤ x
     go true e = let h = ltb-true y x e in omega arith
     go false e = omega arith
 
-pub least-right : (x y : ℕ) → least x y ≤ y
-unfolding least
-least-right x y = go (ltb y x) refl
+pub shorter-right : (x y : ℕ) → shorter x y ≤ y
+unfolding shorter
+shorter-right x y = go (ltb y x) refl
   where
     go : (t : Bool) → ltb y x ≡ t → cond t y x ≤ y
     go true e = omega arith
     go false e = let h = ltb-false y x e in omega arith
 
 -- as the code computes it
-pub least-take : (x y : ℕ) → y < x → y ≡ least x y
-unfolding least
-least-take x y h = rw (lt-ltb y x h)
+pub shorter-take : (x y : ℕ) → y < x → y ≡ shorter x y
+unfolding shorter
+shorter-take x y h = rw (lt-ltb y x h)
 
-pub least-keep : (x y : ℕ) → x ≤ y → x ≡ least x y
-unfolding least
-least-keep x y h = rw (le-ltb y x h)
+pub shorter-keep : (x y : ℕ) → x ≤ y → x ≡ shorter x y
+unfolding shorter
+shorter-keep x y h = rw (le-ltb y x h)
 
 -- a room is no more than the limit and each slice
 pub record Room (room : ℕ) (xs ys : List ℕ) (k : ℕ) : Type 0 where
@@ -64,31 +64,31 @@ pub record Room (room : ℕ) (xs ys : List ℕ) (k : ℕ) : Type 0 where
 pub room-ints : (xs ys : List ℕ) (cs : List ℤ) → Room (roomInts xs ys cs) xs ys (length cs)
 unfolding roomInts
 room-ints xs ys cs =
-    let h = least-left (roomEnds xs ys) (length cs) in
-    let h1 = least-left (least 8192 (length xs)) (length ys) in
+    let h = shorter-left (roomEnds xs ys) (length cs) in
+    let h1 = shorter-left (shorter 8192 (length xs)) (length ys) in
     record {
-      few = omega (arith, h, h1, least-left 8192 (length xs));
-      inFrom = omega (arith, h, h1, least-right 8192 (length xs));
-      inTo = omega (arith, h, least-right (least 8192 (length xs)) (length ys));
-      inCosts = least-right (roomEnds xs ys) (length cs);
+      few = omega (arith, h, h1, shorter-left 8192 (length xs));
+      inFrom = omega (arith, h, h1, shorter-right 8192 (length xs));
+      inTo = omega (arith, h, shorter-right (shorter 8192 (length xs)) (length ys));
+      inCosts = shorter-right (roomEnds xs ys) (length cs);
     }
 
 pub room-bits : (xs ys bs os : List ℕ) → Room (roomFloats xs ys bs os) xs ys (length bs)
 unfolding roomFloats
 room-bits xs ys bs os =
-    let h0 = least-left (least (roomEnds xs ys) (length bs)) (length os) in
-    let h = least-left (roomEnds xs ys) (length bs) in
-    let h1 = least-left (least 8192 (length xs)) (length ys) in
+    let h0 = shorter-left (shorter (roomEnds xs ys) (length bs)) (length os) in
+    let h = shorter-left (roomEnds xs ys) (length bs) in
+    let h1 = shorter-left (shorter 8192 (length xs)) (length ys) in
     record {
-      few = omega (arith, h0, h, h1, least-left 8192 (length xs));
-      inFrom = omega (arith, h0, h, h1, least-right 8192 (length xs));
-      inTo = omega (arith, h0, h, least-right (least 8192 (length xs)) (length ys));
-      inCosts = omega (arith, h0, least-right (roomEnds xs ys) (length bs));
+      few = omega (arith, h0, h, h1, shorter-left 8192 (length xs));
+      inFrom = omega (arith, h0, h, h1, shorter-right 8192 (length xs));
+      inTo = omega (arith, h0, h, shorter-right (shorter 8192 (length xs)) (length ys));
+      inCosts = omega (arith, h0, shorter-right (roomEnds xs ys) (length bs));
     }
 
 pub room-opens : (xs ys bs os : List ℕ) → roomFloats xs ys bs os ≤ length os
 unfolding roomFloats
-room-opens xs ys bs os = least-right (least (roomEnds xs ys) (length bs)) (length os)
+room-opens xs ys bs os = shorter-right (shorter (roomEnds xs ys) (length bs)) (length os)
 
 pub costs-long : (bs os : List ℕ) (n : ℕ) → n ≤ length bs → n ≤ length os → n ≤ length (floatCosts bs os)
 costs-long bs os zero p q = omega arith

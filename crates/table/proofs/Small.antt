@@ -8,17 +8,17 @@ use mathlib.Core.List.{[], _∷_}
 use Prim.Native.Nat.{ℕ, zero, suc}
 use lib.IntN.{ℤ, pos}
 use Rattle.table.specs.Links.{Link, linkOf, samePair, joinsEnds, present, presentBoth, lentWhole, tableNo, placeAt, placing}
-use Rattle.table.specs.Lent.{least, roomInts, roomFloats, rawCost, Ints, intsNow, storeInts, putInts, intsPut, floatsNow, storeFloats, putFloats, floatsPut}
+use Rattle.table.specs.Lent.{shorter, roomInts, roomFloats, rawCost, Ints, intsNow, storeInts, putInts, intsPut, floatsNow, storeFloats, putFloats, floatsPut}
 use Rattle.table.specs.Feeds.{feed, ints, Feed, fed, SameFeeds}
 
 -- S9: 1→0 7 put, then 1→0 4: one link, cost 4
 pub s9 : feed (intsPut true 2 (1 ∷ 1 ∷ [])) (intsNow 0 0 (0 ∷ 0 ∷ []) (0 ∷ 0 ∷ []) (pos 0 ∷ pos 0 ∷ [])) (linkOf 1 0 (pos 7) ∷ linkOf 1 0 (pos 4) ∷ []) ≡ intsNow 0 1 (1 ∷ 0 ∷ []) (0 ∷ 0 ∷ []) (pos 4 ∷ pos 0 ∷ [])
-unfolding samePair joinsEnds present presentBoth lentWhole tableNo placeAt placing least roomInts storeInts putInts
+unfolding samePair joinsEnds present presentBoth lentWhole tableNo placeAt placing shorter roomInts storeInts putInts
 s9 = refl
 
 -- undirected, 1-0 open and then 0-1 closed: one link with its first ends, closed
 pub second-closed : feed (floatsPut false 2 (1 ∷ 1 ∷ [])) (floatsNow 0 0 (0 ∷ []) (0 ∷ []) (0 ∷ []) (0 ∷ [])) (linkOf 1 0 (rawCost 7 1) ∷ linkOf 0 1 (rawCost 4 0) ∷ []) ≡ floatsNow 0 1 (1 ∷ []) (0 ∷ []) (4 ∷ []) (0 ∷ [])
-unfolding samePair joinsEnds present presentBoth lentWhole tableNo placeAt placing least roomFloats storeFloats putFloats
+unfolding samePair joinsEnds present presentBoth lentWhole tableNo placeAt placing shorter roomFloats storeFloats putFloats
 second-closed = refl
 
 -- 1→0 7, then 1→0 4
@@ -30,11 +30,11 @@ abbrev once : Feed (Link ℤ) Ints
 once = record { bound = 2; directed = true; marks = 1 ∷ 1 ∷ []; lent = intsNow 0 0 (5 ∷ []) (5 ∷ []) (pos 5 ∷ []); records = linkOf 0 2 (pos 1) ∷ linkOf 1 0 (pos 4) ∷ linkOf 0 1 (pos 3) ∷ [] }
 
 pub full-once : fed ints once ≡ intsNow 8 1 (1 ∷ []) (0 ∷ []) (pos 4 ∷ [])
-unfolding samePair joinsEnds present presentBoth lentWhole tableNo placeAt placing least roomInts storeInts putInts
+unfolding samePair joinsEnds present presentBoth lentWhole tableNo placeAt placing shorter roomInts storeInts putInts
 full-once = refl
 
 pub twice-once : SameFeeds ints twice once
-unfolding samePair joinsEnds present presentBoth lentWhole tableNo placeAt placing least roomInts storeInts putInts
+unfolding samePair joinsEnds present presentBoth lentWhole tableNo placeAt placing shorter roomInts storeInts putInts
 twice-once = record { one = refl; other = refl; bound = refl; directed = refl; marked = refl; has = λ i. refl; last = λ u v c. (λ w. w, λ w. w) }
 
 -- the same presence, and yet the limits are kept with the one and not with the other

@@ -9,20 +9,20 @@ use lib.ListN.{length, set}
 use Rattle.table.specs.Links.{Link, linkOf, zip3, tableNo, Place, placing, Arc}
 
 -- the smaller of two sizes
-unfoldable pub least : ℕ → ℕ → ℕ
-least x y = cond (ltb y x) y x
+unfoldable pub shorter : ℕ → ℕ → ℕ
+shorter x y = cond (ltb y x) y x
 
 -- the room that the slices of ends leave: the shorter one, at most 8192
 abbrev pub roomEnds : List ℕ → List ℕ → ℕ
-roomEnds xs ys = least (least 8192 (length xs)) (length ys)
+roomEnds xs ys = shorter (shorter 8192 (length xs)) (length ys)
 
 -- the room of an integer map: its shortest table slice, at most 8192
 unfoldable pub roomInts : List ℕ → List ℕ → List ℤ → ℕ
-roomInts xs ys cs = least (roomEnds xs ys) (length cs)
+roomInts xs ys cs = shorter (roomEnds xs ys) (length cs)
 
 -- the room of an f64 map, likewise
 unfoldable pub roomFloats : List ℕ → List ℕ → List ℕ → List ℕ → ℕ
-roomFloats xs ys bs os = least (least (roomEnds xs ys) (length bs)) (length os)
+roomFloats xs ys bs os = shorter (shorter (roomEnds xs ys) (length bs)) (length os)
 
 -- the cost of an f64 link as engines see it: its 64-bit pattern, and whether it is open
 pub record FloatCost : Type 0 where

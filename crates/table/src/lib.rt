@@ -3,7 +3,7 @@ ghost use mathlib.Core.Path.{_≡_};
 ghost use Prim.Native.Nat.{ℕ, _+_, _-_, _≤_, _<_};
 ghost use lib.ListN.{length, getD, take};
 ghost use Rattle.table.specs.Links.{present, presentBoth, lentWhole, allInside, ends, tableNo, samePair, joinsEnds, FirstPlace, placeNow, placing, linkOf};
-ghost use Rattle.table.specs.Lent.{least, roomEnds, roomInts, roomFloats, written, intsNow, putInts, floatsNow, rawCost, putFloats};
+ghost use Rattle.table.specs.Lent.{shorter, roomEnds, roomInts, roomFloats, written, intsNow, putInts, floatsNow, rawCost, putFloats};
 
 // The scalars of a lent map.
 pub struct Map {
@@ -45,7 +45,7 @@ pub fn is_present(bound: usize, marks: &[u8], i: u16) -> bool
 
 // The smaller of two sizes.
 fn smaller(x: usize, y: usize) -> usize
-    ensures { λ r. ⌜ r ≡ least x y ⌝ }
+    ensures { λ r. ⌜ r ≡ shorter x y ⌝ }
 {
     if y < x {
         return y;

@@ -29,7 +29,7 @@ use Rattle.turns.proofs.Cells.{cells-dist, entry-is, name-back, stored-
 
 -- the arc at place i as one of the list
 pub arc-here : {C : Type 0} {m : ℕ} {nb : Lists C} {u i v : ℕ} {c : C} → u < m → getD (nb .offsets) u 0 ≤ i → i < getD (nb .offsets) (u + 1) 0 → v ≡ getD (nb .heads) i 0 → ((z : C) → getD (nb .weights) i z ≡ c) → RowArc m nb u v c
-arc-here {i} a b l h w = record { at = i; row = a; from = b; to = l; head = sym h; cost = w }
+arc-here {i} a b l h w = record { at = i; index = a; from = b; to = l; head = sym h; cost = w }
 
 -- the cost at a place of the row, whatever stands for a missing one
 pub cost-here : {C : Type 0} {m : ℕ} {nb : Lists C} {u i : ℕ} (x : C) → Sound m nb → u < m → i < getD (nb .offsets) (u + 1) 0 → (z : C) → getD (nb .weights) i z ≡ getD (nb .weights) i x
@@ -94,7 +94,7 @@ module _ {K C : Type 0} {Y : Kind K C} {ok : K → Type 0} (W : Lawful Y ok) whe
     module _ {k : ℕ} {M₀ : Memory K} (o : Opens Y m nb u k M₀) {d : K} (di : d ≡ getD (M₀ .dist) u (Y .blank)) {i n : ℕ} {M : Memory K} (r : Row Y m nb u d i n M₀ M) (l : i < getD (nb .offsets) (u + 1) 0)
         {v : ℕ} (vi : v ≡ getD (nb .heads) i 0) {c : C} (ci : (z : C) → getD (nb .weights) i z ≡ c) where
       here : RowArc m nb u v c
-      here = arc-here (o .row) (r .from) l vi ci
+      here = arc-here (o .index) (r .from) l vi ci
 
       d-good : Y .good d
       d-good = subst (Y .good) (sym di) (o .dist)
@@ -102,7 +102,7 @@ module _ {K C : Type 0} {Y : Kind K C} {ok : K → Type 0} (W : Lawful Y ok) whe
       -- what an arc that is not bad asks
       pub row-safe : Y .bad c ≡ false → Safe Y u d v c n M
       row-safe b = let inside : v < m = o .rows .inside u v c here in record {
-        tail = omega (arith, o .row, o .rows .bounded);
+        tail = omega (arith, o .index, o .rows .bounded);
         inD = omega (arith, r .good .longD);
         inP = omega (arith, r .good .longP);
         inB = omega (arith, r .good .longB);
@@ -123,7 +123,7 @@ module _ {K C : Type 0} {Y : Kind K C} {ok : K → Type 0} (W : Lawful Y ok) whe
       }
         where
           both : Good Y m M′ n′ × (cellsOf Y M′ ≡ lookAt (turnOf Y) u d v c (cellsOf Y M))
-          both = looked (r .good) u d v c d-good b (o .rows .inside u v c here) (omega (arith, o .row, o .rows .bounded)) w (long ∙ r .good .longB)
+          both = looked (r .good) u d v c d-good b (o .rows .inside u v c here) (omega (arith, o .index, o .rows .bounded)) w (long ∙ r .good .longB)
 
           more : Turned (turnOf Y) (Also (Passed nb u i) v c) u d (cellsOf Y M₀) (lookAt (turnOf Y) u d v c (cellsOf Y M))
           more = look-turned (turnOf Y) (W .laws) u d (W .good-ok d d-good) (Passed nb u i) v c (r .fine) b (all-ok (o .good)) (r .turned)
@@ -160,4 +160,4 @@ module _ {K C : Type 0} {Y : Kind K C} {ok : K → Type 0} (W : Lawful Y ok) whe
         pass a = record { at = a .at; from = a .from; to = a .to; below = omega (arith, l, a .to); head = a .head; cost = a .cost }
 
         arc : {v : ℕ} {c : C} → Passed nb u i v c → RowArc m nb u v c
-        arc a = record { at = a .at; row = inside; from = a .from; to = a .to; head = a .head; cost = a .cost }
+        arc a = record { at = a .at; index = inside; from = a .from; to = a .to; head = a .head; cost = a .cost }

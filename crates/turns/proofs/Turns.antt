@@ -160,7 +160,7 @@ module _ {K C : Type 0} (Y : Kind K C) (m : ℕ) (target : Option ℕ) (source :
       module _ {u : ℕ} {heap places : List ℕ} (o : Popped M (memoryOf (M .dist) (M .preds) heap places (M .keys)) n u) where
         -- what the row asks
         pub opens : Opens Y m nb u (n - 1) (memoryOf (M .dist) (M .preds) heap places (M .keys))
-        opens = record { rows = sound; good = o .good; row = o .below; dist = subst (Y .good) (sym (o .entry)) (o .fine) }
+        opens = record { rows = sound; good = o .good; index = o .below; dist = subst (Y .good) (sym (o .entry)) (o .fine) }
 
         -- the target is taken
         pub finds : isTarget target u ≡ true → {number takes : ℕ} → number ≡ 0 → takes ≡ suc t → Searched Y m target source nb (memoryOf (M .dist) (M .preds) heap places (M .keys)) number takes

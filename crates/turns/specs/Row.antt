@@ -59,7 +59,7 @@ module _ {K C : Type 0} (Y : Kind K C) where
   pub record Opens (m : ℕ) (nb : Lists C) (u n : ℕ) (M : Memory K) : Type 0 where
     pub rows : Sound m nb
     pub good : Good Y m M n
-    pub row : u < m
+    pub index : u < m
     pub dist : Y .good (getD (M .dist) u (Y .blank))
 
   -- an arc of u with a bad cost

@@ -8,7 +8,7 @@ use lib.Signed.{_≤ℤ_}
 use Rattle.whole.specs.Zed.{_⊕_}
 
 -- an arc, not below zero, from u to v, that costs at most the difference of the distances
-pub record Link (Arc : ℕ → ℕ → ℤ → Type 0) (dist : ℕ → Option ℤ) (u v : ℕ) : Type 0 where
+pub record ChainArc (Arc : ℕ → ℕ → ℤ → Type 0) (dist : ℕ → Option ℤ) (u v : ℕ) : Type 0 where
   pub d : ℤ
   pub e : ℤ
   pub c : ℤ
@@ -21,7 +21,7 @@ pub record Link (Arc : ℕ → ℕ → ℤ → Type 0) (dist : ℕ → Option �
 -- from v back to o
 pub data Chain (Arc : ℕ → ℕ → ℤ → Type 0) (o : ℕ) (dist : ℕ → Option ℤ) (pred : ℕ → Option ℕ) : ℕ → Type 0 where
   source : {v : ℕ} → v ≡ o → Chain Arc o dist pred v
-  via : {v : ℕ} (u : ℕ) → (v ≡ o → ⊥) → pred v ≡ some u → Link Arc dist u v → Chain Arc o dist pred u → Chain Arc o dist pred v
+  via : {v : ℕ} (u : ℕ) → (v ≡ o → ⊥) → pred v ≡ some u → ChainArc Arc dist u v → Chain Arc o dist pred u → Chain Arc o dist pred v
 
 module _ {Arc : ℕ → ℕ → ℤ → Type 0} {o : ℕ} {dist : ℕ → Option ℤ} {pred : ℕ → Option ℕ} where
   -- how many arcs

@@ -7,9 +7,9 @@ use mathlib.Core.Path.{sym, ap, _∙_}
 use mathlib.Core.List.{List, [], _∷_}
 use native.Mathlib.Omega.{arith}
 use lib.ListN.{length, getD, set, length-set, length-append}
-use Rattle.a_star.specs.Promise.{written}
+use Rattle.a_star.specs.Promise.{atFront}
 use Rattle.a_star.specs.Trail.{trail}
-use Rattle.a_star.proofs.Path.{trail-source, trail-back, trail-long, back-in, back-some, back-next, written-one, written-more}
+use Rattle.a_star.proofs.Path.{trail-source, trail-back, trail-long, back-in, back-some, back-next, front-one, front-more}
 use Prim.Native.Nat.{ℕ, _-_, _<_}
 use borrow.Fn.Kinds.{In}
 use borrow.Fn.PlainCycle.{Measures, is, falls, and}
@@ -57,7 +57,7 @@ write-path-returns :
 write-path-returns t c =
     let s = c .before .before .before in
     let e = trail-source (s .args .preds .now) (s .args .source) (s .args .left) (s .args .v) (c .if1 .taken) in
-    (sym (ap length e), written-one (s .args .v) (s .args .path .now) (omega (arith, s .pre .1 .1 .1)) ∙ ap (λ (l : List ℕ). written l (s .args .path .now)) (sym e))
+    (sym (ap length e), front-one (s .args .v) (s .args .path .now) (omega (arith, s .pre .1 .1 .1)) ∙ ap (λ (l : List ℕ). atFront l (s .args .path .now)) (sym e))
 
 write-path-mul-write-path : (t : ℕ) → write-path-lts.Need-mul-write-path (
   write-path-below t,
@@ -152,8 +152,8 @@ write-path-returns-2 t c =
     let l = trail (s .args .preds .now) (s .args .source) (s .args .left - 1) (getD (s .args .preds .now) (s .args .v) 0) in (
       omega (arith, ap length e, length-append l (s .args .v ∷ []), w .write-path .ensures .0),
       (λ i. set (w .write-path .ensures .1 i) (w .write-path .ensures .0 i) (s .args .v))
-          ∙ written-more l (s .args .v) (s .args .path .now) (omega (arith, trail-long (s .args .preds .now) (s .args .source) (s .args .left - 1) (getD (s .args .preds .now) (s .args .v) 0), some, s .pre .1 .1 .1))
-          ∙ ap (λ (x : List ℕ). written x (s .args .path .now)) (sym e),
+          ∙ front-more l (s .args .v) (s .args .path .now) (omega (arith, trail-long (s .args .preds .now) (s .args .source) (s .args .left - 1) (getD (s .args .preds .now) (s .args .v) 0), some, s .pre .1 .1 .1))
+          ∙ ap (λ (x : List ℕ). atFront x (s .args .path .now)) (sym e),
     )
 
 pub +write-path-spec : {M : Type 1} → statement M

@@ -7,7 +7,7 @@ use borrow.Author.Tests.{not-true, not-false}
 use lib.Seq.{length-take-le}
 use mir.Syntax.{w64}
 use mir.ValLaws.{toZ-ofZ}
-use Rattle.a_star.specs.Promise.{written}
+use Rattle.a_star.specs.Promise.{atFront}
 use Rattle.a_star.specs.Parts.{refused, nowhere, found}
 use Rattle.a_star.proofs.Path.{left-fits, answer-is}
 use Rattle.a_star.proofs.answer.Statement.{statement}
@@ -38,7 +38,7 @@ returns-3 c =
     let p = c .before .before .before in
     let h = p .before .before .before .before in
     let d = toZ-ofZ w64 (c .distance .result) (sfits-of (c .distance .ok)) ∙ c .distance .ensures in
-    found (h .before .if1 .left) (sym (h .has-distance .ensures) ∙ not-false _ (p .before .before .before .if2 .left)) (answer-is d (p .write-path .ensures .0)) (p .write-path .ensures .1 ∙ ap (written _) (h .before .before .before .before .blank-u32 .ensures))
+    found (h .before .if1 .left) (sym (h .has-distance .ensures) ∙ not-false _ (p .before .before .before .if2 .left)) (answer-is d (p .write-path .ensures .0)) (p .write-path .ensures .1 ∙ ap (atFront _) (h .before .before .before .before .blank-u32 .ensures))
 
 pub answer-spec : {M : Type 1} → statement M
 answer-spec =

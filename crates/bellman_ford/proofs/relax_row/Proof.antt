@@ -15,7 +15,7 @@ use mir.ValLaws.{toZ-ofZ}
 use Rattle.rows.specs.Rows.{listsOf}
 use Rattle.bellman_ford.specs.Search.{memoryOf}
 use Rattle.bellman_ford.proofs.Arc.{safe}
-use Rattle.bellman_ford.proofs.Row.{Row, row-first, row-next, row-stops, row-ends, safe-at, looked-at}
+use Rattle.bellman_ford.proofs.Row.{Row, row-first, row-next, row-stops, row-ends, safe-at, relaxed-at}
 
 abbrev Inv-loop : tie.InvT-loop
 Inv-loop m p source u head waiting offsets heads weights dist₀ queue₀ queued₀ lengths₀ d k end size₀ i₀ dist queue queued lengths size i = Row m p source (listsOf offsets heads weights) u (toZ w64 d) k i head waiting size (memoryOf dist₀ queue₀ queued₀ lengths₀) (memoryOf dist queue queued lengths)
@@ -26,10 +26,10 @@ abbrev μ-loop : tie.MeasureT-loop
 -- a place of the row is a place of the neighbour list
 module _ (c : lts.In-loop (relax-arc-reads.Asked, relax-arc-reads.Learnt) reads.Pre reads.Post Inv-loop μ-loop) where
   in-heads : c .before .loop .i < length (c .before .before .before .before .before .before .before .before .before .before .before .args .heads .now)
-  in-heads = omega (arith, c .before .before .before .before .before .before .before .before .before .before .before .pre .0 .sound .heads (c .before .before .before .before .before .before .before .before .before .before .before .args .u) (c .before .loop .inv .state .row))
+  in-heads = omega (arith, c .before .before .before .before .before .before .before .before .before .before .before .pre .0 .sound .heads (c .before .before .before .before .before .before .before .before .before .before .before .args .u) (c .before .loop .inv .state .index))
 
   in-weights : c .before .loop .i < length (c .before .before .before .before .before .before .before .before .before .before .before .args .weights .now)
-  in-weights = omega (arith, c .before .before .before .before .before .before .before .before .before .before .before .pre .0 .sound .weights (c .before .before .before .before .before .before .before .before .before .before .before .args .u) (c .before .loop .inv .state .row))
+  in-weights = omega (arith, c .before .before .before .before .before .before .before .before .before .before .before .pre .0 .sound .weights (c .before .before .before .before .before .before .before .before .before .before .before .args .u) (c .before .loop .inv .state .index))
 
 loop-holds : tie.Need-loop-holds Inv-loop μ-loop
 loop-holds c = row-first (toZ-ofZ w64 _ (sfits-of (c .before .before .before .d .given))) (c .before .before .before .before .before .before .before .before .before .pre .1)
@@ -53,13 +53,13 @@ relax-arc-requires : tie.Need-relax-arc-requires Inv-loop μ-loop
 relax-arc-requires c κs = safe-at (toZ-ofZ w64 _ (sfits-of (c .before .before .before .before .relax-arc-arg .given))) (safe (c .before .before .before .before .before .before .before .before .before .before .before .before .before .before .before .before .before .pre .0) (c .before .before .before .before .before .before .before .loop .inv .state) (c .before .before .before .before .before .before .loop-test .taken))
 
 returns : tie.Need-returns Inv-loop μ-loop
-returns c = row-stops (c .before .before .before .before .before .before .before .before .before .before .before .before .before .before .before .before .before .before .before .before .before .before .before .before .before .before .pre .0) (c .before .before .before .before .before .before .before .before .before .before .before .before .before .before .before .before .loop .inv) (c .before .before .before .before .before .before .before .before .before .before .before .before .before .before .before .loop-test .taken) (looked-at (toZ-ofZ w64 _ (sfits-of (c .before .before .before .before .before .before .before .before .before .before .before .before .before .relax-arc-arg .given))) (c .before .before .before .before .before .before .before .before .relax-arc .ensures)) (c .if1 .taken)
+returns c = row-stops (c .before .before .before .before .before .before .before .before .before .before .before .before .before .before .before .before .before .before .before .before .before .before .before .before .before .before .pre .0) (c .before .before .before .before .before .before .before .before .before .before .before .before .before .before .before .before .loop .inv) (c .before .before .before .before .before .before .before .before .before .before .before .before .before .before .before .loop-test .taken) (relaxed-at (toZ-ofZ w64 _ (sfits-of (c .before .before .before .before .before .before .before .before .before .before .before .before .before .relax-arc-arg .given))) (c .before .before .before .before .before .before .before .before .relax-arc .ensures)) (c .if1 .taken)
 
 add-i : tie.Need-add-i Inv-loop μ-loop
 add-i c = omega (arith, c .before .before .before .before .before .before .before .before .before .before .before .before .before .before .before .loop-test .taken, c .before .before .before .before .before .before .before .before .before .before .before .before .before .before .before .before .before .before .shared-slice-known3 .given (c .before .before .before .before .before .before .before .before .before .before .before .before .before .before .before .before .before .before .before .before .before .before .before .before .before .before .args .u + 1))
 
 loop-again : tie.Need-loop-again Inv-loop μ-loop
-loop-again c = row-next (c .before .before .before .before .before .before .before .before .before .before .before .before .before .before .before .before .before .before .before .before .before .before .before .before .before .before .pre .0) (c .before .before .before .before .before .before .before .before .before .before .before .before .before .before .before .before .loop .inv) (c .before .before .before .before .before .before .before .before .before .before .before .before .before .before .before .loop-test .taken) (looked-at (toZ-ofZ w64 _ (sfits-of (c .before .before .before .before .before .before .before .before .before .before .before .before .before .relax-arc-arg .given))) (c .before .before .before .before .before .before .before .before .relax-arc .ensures)) (c .if1 .left)
+loop-again c = row-next (c .before .before .before .before .before .before .before .before .before .before .before .before .before .before .before .before .before .before .before .before .before .before .before .before .before .before .pre .0) (c .before .before .before .before .before .before .before .before .before .before .before .before .before .before .before .before .loop .inv) (c .before .before .before .before .before .before .before .before .before .before .before .before .before .before .before .loop-test .taken) (relaxed-at (toZ-ofZ w64 _ (sfits-of (c .before .before .before .before .before .before .before .before .before .before .before .before .before .relax-arc-arg .given))) (c .before .before .before .before .before .before .before .before .relax-arc .ensures)) (c .if1 .left)
 
 returns-2 : tie.Need-returns-2 Inv-loop μ-loop
 returns-2 c = row-ends (c .before .before .before .before .before .before .before .before .before .before .before .pre .0) (c .before .loop .inv) (c .loop-test .left)

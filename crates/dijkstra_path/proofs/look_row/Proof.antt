@@ -32,7 +32,7 @@ abbrev μ-loop : tie.MeasureT-loop
 
 -- the entry read is u's, whatever stands for a missing one
 entry : (s : lts.Start (bad-cost-reads.Asked, bad-cost-reads.Learnt, look-arc-reads.Asked, look-arc-reads.Learnt) reads.Pre reads.Post Inv-loop μ-loop) → getD (s .args .dist .now) (s .args .u) 0 ≡ getD (s .args .dist .now) (s .args .u) noneF64
-entry s = no-default (s .args .dist .now) (s .args .u) 0 noneF64 (omega (arith, s .pre .row, s .pre .good .longD))
+entry s = no-default (s .args .dist .now) (s .args .u) 0 noneF64 (omega (arith, s .pre .index, s .pre .good .longD))
 
 mul-d : tie.Need-mul-d Inv-loop μ-loop
 mul-d c = search needs
@@ -59,10 +59,10 @@ loop-holds : tie.Need-loop-holds Inv-loop μ-loop
 loop-holds c = row-first (lawful (c .before .before .before .before .before .before .before .before .before .before .before .args .limit)) (c .before .before .before .before .before .before .before .before .before .before .before .pre .good)
 
 mul-bits : tie.Need-mul-bits Inv-loop μ-loop
-mul-bits c = let s = c .before .before .before .before .before .before .before .before .before .before .before .before .before in let h = s .pre .rows .weights (s .args .u) (s .pre .row) in search (needs, h)
+mul-bits c = let s = c .before .before .before .before .before .before .before .before .before .before .before .before .before in let h = s .pre .rows .weights (s .args .u) (s .pre .index) in search (needs, h)
 
 shared-slice-read-bits : tie.Need-shared-slice-read-bits Inv-loop μ-loop
-shared-slice-read-bits c = let s = c .before .before .before .before .before .before .before .before .before .before .before .before .before .before in omega (arith, c .before .loop-test .taken, s .pre .rows .weights (s .args .u) (s .pre .row))
+shared-slice-read-bits c = let s = c .before .before .before .before .before .before .before .before .before .before .before .before .before .before in omega (arith, c .before .loop-test .taken, s .pre .rows .weights (s .args .u) (s .pre .index))
 
 bad-cost-requires : tie.Need-bad-cost-requires Inv-loop μ-loop
 bad-cost-requires c κs = search needs
@@ -85,13 +85,13 @@ same-length-5 c = search needs
 returns : tie.Need-returns Inv-loop μ-loop
 returns c =
     let s = c .before .before .before .before .before .before .before .before .before .before .before .before .before .before .before .before in
-    row-stops (lawful (s .args .limit)) (s .pre) (entry s) (c .before .before .before .before .loop .inv) (c .before .before .before .loop-test .taken) refl (cost-here 0 (s .pre .rows) (s .pre .row) (c .before .before .before .loop-test .taken)) (sym (c .before .bad-cost .ensures) ∙ c .if1 .taken) refl
+    row-stops (lawful (s .args .limit)) (s .pre) (entry s) (c .before .before .before .before .loop .inv) (c .before .before .before .loop-test .taken) refl (cost-here 0 (s .pre .rows) (s .pre .index) (c .before .before .before .loop-test .taken)) (sym (c .before .bad-cost .ensures) ∙ c .if1 .taken) refl
 
 mul-v : tie.Need-mul-v Inv-loop μ-loop
-mul-v c = let s = c .before .before .before .before .before .before .before .before .before .before .before .before .before .before .before .before in let h = s .pre .rows .heads (s .args .u) (s .pre .row) in search (needs, h)
+mul-v c = let s = c .before .before .before .before .before .before .before .before .before .before .before .before .before .before .before .before in let h = s .pre .rows .heads (s .args .u) (s .pre .index) in search (needs, h)
 
 shared-slice-read-v : tie.Need-shared-slice-read-v Inv-loop μ-loop
-shared-slice-read-v c = let s = c .before .before .before .before .before .before .before .before .before .before .before .before .before .before .before .before .before in omega (arith, c .before .before .before .before .loop-test .taken, s .pre .rows .heads (s .args .u) (s .pre .row))
+shared-slice-read-v c = let s = c .before .before .before .before .before .before .before .before .before .before .before .before .before .before .before .before .before in omega (arith, c .before .before .before .before .loop-test .taken, s .pre .rows .heads (s .args .u) (s .pre .index))
 
 cast-v : tie.Need-cast-v Inv-loop μ-loop
 cast-v c = omega (arith, c .shared-slice-known7 .given (c .before .before .before .before .before .loop .i))
@@ -99,7 +99,7 @@ cast-v c = omega (arith, c .shared-slice-known7 .given (c .before .before .befor
 look-arc-requires : tie.Need-look-arc-requires Inv-loop μ-loop
 look-arc-requires c κs =
     let s = c .before .before .before .before .before .before .before .before .before .before .before .before .before .before .before .before .before .before .before .before .before .before in
-    row-safe (lawful (s .args .limit)) (s .pre) (entry s) (c .before .before .before .before .before .before .before .before .before .before .loop .inv) (c .before .before .before .before .before .before .before .before .before .loop-test .taken) refl (cost-here 0 (s .pre .rows) (s .pre .row) (c .before .before .before .before .before .before .before .before .before .loop-test .taken)) (sym (c .before .before .before .before .before .before .before .bad-cost .ensures) ∙ c .before .before .before .before .before .before .if1 .left)
+    row-safe (lawful (s .args .limit)) (s .pre) (entry s) (c .before .before .before .before .before .before .before .before .before .before .loop .inv) (c .before .before .before .before .before .before .before .before .before .loop-test .taken) refl (cost-here 0 (s .pre .rows) (s .pre .index) (c .before .before .before .before .before .before .before .before .before .loop-test .taken)) (sym (c .before .before .before .before .before .before .before .bad-cost .ensures) ∙ c .before .before .before .before .before .before .if1 .left)
 
 add-i : tie.Need-add-i Inv-loop μ-loop
 add-i c = omega (arith, c .before .before .before .before .before .before .before .before .before .before .before .before .before .before .before .before .before .before .before .before .loop-test .taken, c .before .before .before .before .before .before .before .before .before .before .before .before .before .before .before .before .before .before .before .before .before .before .before .shared-slice-known4 .given (c .before .before .before .before .before .before .before .before .before .before .before .before .before .before .before .before .before .before .before .before .before .before .before .before .before .before .before .before .before .before .before .before .before .args .u + 1))
@@ -110,7 +110,7 @@ loop-less c = search needs
 loop-again : tie.Need-loop-again Inv-loop μ-loop
 loop-again c =
     let s = c .before .before .before .before .before .before .before .before .before .before .before .before .before .before .before .before .before .before .before .before .before .before .before .before .before .before .before .before .before .before .before .before .before in
-    row-next (lawful (s .args .limit)) (s .pre) (entry s) (c .before .before .before .before .before .before .before .before .before .before .before .before .before .before .before .before .before .before .before .before .before .loop .inv) (c .before .before .before .before .before .before .before .before .before .before .before .before .before .before .before .before .before .before .before .before .loop-test .taken) refl (cost-here 0 (s .pre .rows) (s .pre .row) (c .before .before .before .before .before .before .before .before .before .before .before .before .before .before .before .before .before .before .before .before .loop-test .taken)) (sym (c .before .before .before .before .before .before .before .before .before .before .before .before .before .before .before .before .before .before .bad-cost .ensures) ∙ c .before .before .before .before .before .before .before .before .before .before .before .before .before .before .before .before .before .if1 .left) (c .before .before .before .before .before .before .before .before .before .before .look-arc .ensures) (c .before .before .before .before .before .before .before .before .before .before .look-arc .kept .1 .1 .1 .1 .1 .1 .1 .1 .1 .0)
+    row-next (lawful (s .args .limit)) (s .pre) (entry s) (c .before .before .before .before .before .before .before .before .before .before .before .before .before .before .before .before .before .before .before .before .before .loop .inv) (c .before .before .before .before .before .before .before .before .before .before .before .before .before .before .before .before .before .before .before .before .loop-test .taken) refl (cost-here 0 (s .pre .rows) (s .pre .index) (c .before .before .before .before .before .before .before .before .before .before .before .before .before .before .before .before .before .before .before .before .loop-test .taken)) (sym (c .before .before .before .before .before .before .before .before .before .before .before .before .before .before .before .before .before .before .bad-cost .ensures) ∙ c .before .before .before .before .before .before .before .before .before .before .before .before .before .before .before .before .before .if1 .left) (c .before .before .before .before .before .before .before .before .before .before .look-arc .ensures) (c .before .before .before .before .before .before .before .before .before .before .look-arc .kept .1 .1 .1 .1 .1 .1 .1 .1 .1 .0)
 
 same-length-6 : tie.Need-same-length-6 Inv-loop μ-loop
 same-length-6 c = search needs
@@ -128,7 +128,7 @@ same-length-10 : tie.Need-same-length-10 Inv-loop μ-loop
 same-length-10 c = search needs
 
 returns-2 : tie.Need-returns-2 Inv-loop μ-loop
-returns-2 c = let s = c .before .before .before .before .before .before .before .before .before .before .before .before .before in row-ends (lawful (s .args .limit)) (s .pre .row) (entry s) (c .before .loop .inv) (c .loop-test .left) refl
+returns-2 c = let s = c .before .before .before .before .before .before .before .before .before .before .before .before .before in row-ends (lawful (s .args .limit)) (s .pre .index) (entry s) (c .before .loop .inv) (c .loop-test .left) refl
 
 pub look-row-spec : {M : Type 1} → statement M
 look-row-spec =

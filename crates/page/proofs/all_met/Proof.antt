@@ -7,11 +7,11 @@ use native.Mathlib.Omega.{arith}
 use borrow.Author.Needs.{needs}
 use borrow.Author.Tests.{not-true, not-false}
 use lib.ListN.{length}
-use Rattle.page.specs.Parts.{Shown}
+use Rattle.page.specs.Parts.{MarkedWhereKnown}
 use Rattle.page.proofs.Tests.{says-yes, says-no, all-more}
 
 abbrev Inv-loop : tie.InvT-loop
-Inv-loop m source page met v₀ v = (v ≤ m) × (m ≤ length page) × (m ≤ length met) × ((j : ℕ) → j < v → Shown source page met j)
+Inv-loop m source page met v₀ v = (v ≤ m) × (m ≤ length page) × (m ≤ length met) × ((j : ℕ) → j < v → MarkedWhereKnown source page met j)
 
 abbrev μ-loop : tie.MeasureT-loop
 μ-loop m source page met v₀ v = m - v

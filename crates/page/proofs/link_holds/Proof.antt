@@ -10,7 +10,7 @@ use lib.ListN.{getD}
 use mir.Syntax.{w32}
 use mir.ValLaws.{toZ-ofZ}
 use Rattle.page.proofs.Tests.{says-yes, says-no}
-use Rattle.page.proofs.Marks.{near, link-off, link-back, link-one, link-both}
+use Rattle.page.proofs.Marks.{can-look, link-off, link-back, link-one, link-both}
 
 mul-a : tie.Need-mul-a
 mul-a c = search needs
@@ -37,7 +37,7 @@ shared-slice-copy-out-arc-holds : tie.Need-shared-slice-copy-out-arc-holds
 shared-slice-copy-out-arc-holds c = search needs
 
 arc-holds-requires : tie.Need-arc-holds-requires
-arc-holds-requires c κs = near (c .before .before .before .before .before .before .before .pre .0) (c .before .before .before .before .before .before .before .pre .1)
+arc-holds-requires c κs = can-look (c .before .before .before .before .before .before .before .pre .0) (c .before .before .before .before .before .before .before .pre .1)
 
 same-length : tie.Need-same-length
 same-length c = search needs

@@ -35,10 +35,10 @@ abbrev μ-loop : tie.MeasureT-loop
 -- a place of the row is a place of the neighbour list
 module _ (c : lts.In-loop (below-zero-reads.Asked, below-zero-reads.Learnt, look-arc-reads.Asked, look-arc-reads.Learnt) reads.Pre reads.Post Inv-loop μ-loop) where
   in-heads : c .before .loop .i < length (c .before .before .before .before .before .before .before .before .before .before .args .heads .now)
-  in-heads = let s = c .before .before .before .before .before .before .before .before .before .before in omega (arith, c .loop-test .taken, s .pre .0 .rows .heads (s .args .u) (s .pre .0 .row))
+  in-heads = let s = c .before .before .before .before .before .before .before .before .before .before in omega (arith, c .loop-test .taken, s .pre .0 .rows .heads (s .args .u) (s .pre .0 .index))
 
   in-weights : c .before .loop .i < length (c .before .before .before .before .before .before .before .before .before .before .args .weights .now)
-  in-weights = let s = c .before .before .before .before .before .before .before .before .before .before in omega (arith, c .loop-test .taken, s .pre .0 .rows .weights (s .args .u) (s .pre .0 .row))
+  in-weights = let s = c .before .before .before .before .before .before .before .before .before .before in omega (arith, c .loop-test .taken, s .pre .0 .rows .weights (s .args .u) (s .pre .0 .index))
 
 mul-d : tie.Need-mul-d Inv-loop μ-loop
 mul-d c = search needs
@@ -86,7 +86,7 @@ returns : tie.Need-returns Inv-loop μ-loop
 returns c =
     let t = c .before .before .before in
     let s = t .before .before .before .before .before .before .before .before .before in
-    row-stops (lawful (s .args .guess .now)) (s .pre .0) (entry-is (s .args .guess .now) (s .pre .0) (toZ-ofZ w64 _ (sfits-of (t .before .before .before .d .given)))) (t .loop .inv) (c .before .before .loop-test .taken) refl (cost-here (pos 0) (s .pre .0 .rows) (s .pre .0 .row) (c .before .before .loop-test .taken)) (sym (c .before .below-zero .ensures) ∙ c .if1 .taken) refl
+    row-stops (lawful (s .args .guess .now)) (s .pre .0) (entry-is (s .args .guess .now) (s .pre .0) (toZ-ofZ w64 _ (sfits-of (t .before .before .before .d .given)))) (t .loop .inv) (c .before .before .loop-test .taken) refl (cost-here (pos 0) (s .pre .0 .rows) (s .pre .0 .index) (c .before .before .loop-test .taken)) (sym (c .before .below-zero .ensures) ∙ c .if1 .taken) refl
 
 mul-v : tie.Need-mul-v Inv-loop μ-loop
 mul-v c = let h = in-heads (c .before .before) in search needs
@@ -140,7 +140,7 @@ same-length-10 c = search needs
 returns-2 : tie.Need-returns-2 Inv-loop μ-loop
 returns-2 c =
     let s = c .before .before .before .before .before .before .before .before .before .before in
-    row-ends (lawful (s .args .guess .now)) (s .pre .0 .row) (entry-is (s .args .guess .now) (s .pre .0) (toZ-ofZ w64 _ (sfits-of (c .before .before .before .before .d .given)))) (c .before .loop .inv) (c .loop-test .left) refl
+    row-ends (lawful (s .args .guess .now)) (s .pre .0 .index) (entry-is (s .args .guess .now) (s .pre .0) (toZ-ofZ w64 _ (sfits-of (c .before .before .before .before .d .given)))) (c .before .loop .inv) (c .loop-test .left) refl
 
 pub look-row-spec : {M : Type 1} → statement M
 look-row-spec =

@@ -1,14 +1,14 @@
 use Rattle.table.proofs.smaller.Statement.{statement}
 use Rattle.table.proofs.smaller.Tie as tie
-use Rattle.table.proofs.Laws.{least-take, least-keep}
+use Rattle.table.proofs.Laws.{shorter-take, shorter-keep}
 
 returns : tie.Need-returns
 returns c =
-    least-take _ _ (c .if1 .taken)
+    shorter-take _ _ (c .if1 .taken)
 
 returns-2 : tie.Need-returns-2
 returns-2 c =
-    least-keep _ _ (c .if1 .left)
+    shorter-keep _ _ (c .if1 .left)
 
 pub smaller-spec : {M : Type 1} → statement M
 smaller-spec = tie.close (tie.spec returns returns-2)
