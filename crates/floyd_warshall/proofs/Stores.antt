@@ -1,10 +1,11 @@
 -- Loops that store one value after another.
 -- Assumes nothing.
-use mathlib.Core.Path.{_≡_, sym, ap, _∙_, subst}
+use mathlib.Core.Path.{_≡_, refl, sym, ap, _∙_, subst}
 use mathlib.Core.Bool.{Bool}
 use mathlib.Core.List.{List}
 use Prim.Native.Nat.{ℕ, zero, _+_, _*_, _^_, _≤_, _<_}
 use native.Mathlib.Decide.{ℕ-discrete}
+use native.Mathlib.Numerals.{add-one}
 use native.Mathlib.Omega.{arith}
 use lib.IntN.{ℤ, pos}
 use lib.ListN.{length, getD, set, drop, length-set}
@@ -12,9 +13,9 @@ use lib.Seq.{getD-set-same, getD-set-other}
 use Rattle.clean.specs.Fill.{filled}
 use Rattle.clean.proofs.Filled.{filled-length, filled-at}
 use Rattle.matrix.proofs.Matrix.{place-in}
-use Rattle.floyd_warshall.specs.Rounds.{cell}
+use Rattle.floyd_warshall.specs.Rounds.{lesser, cell, lowerAt, block, Block}
 use Rattle.table.specs.Links.{Link, links}
-use Rattle.whole.specs.Zed.{Cost32}
+use Rattle.whole.specs.Zed.{_⊕_, Within, Cost32}
 use Rattle.floyd_warshall.specs.Filling.{Square, Started, shown, MatrixShown, linked, poured, Costs}
 use Rattle.floyd_warshall.proofs.Poured.{next-link, no-link}
 use Rattle.floyd_warshall.proofs.Cells.{cell-same, cell-row, cell-column}
@@ -73,6 +74,28 @@ showing-more l₀ x l z h e r = record { within = omega (arith, r .size); size =
 
 pub all-shown : (l₀ : List ℤ) (x : ℕ) (l : List ℤ) → length l ≤ x → Showing l₀ x l → MatrixShown l₀ l
 all-shown l₀ x l h r = record { size = r .size; at = λ y k. r .at y (omega (arith, r .size)) }
+
+-- the first x entries of a block lowered
+pub record Lowering (at by : ℕ) (a : ℤ) (n : ℕ) (l₀ : List ℤ) (x : ℕ) (l : List ℤ) : Type 0 where
+  pub within : x ≤ n
+  pub size : length l ≡ length l₀
+  pub same : l ≡ block at by a x l₀
+
+module _ {at by : ℕ} {a : ℤ} {n : ℕ} {l₀ : List ℤ} where
+  pub lowering-first : Lowering at by a n l₀ 0 l₀
+  unfolding block
+  lowering-first = record { within = omega arith; size = refl; same = refl }
+
+  module _ {x : ℕ} {l : List ℤ} (r : Lowering at by a n l₀ x l) where
+    pub lowering-small : Block at by a n l₀ → x < n → Within (2 ^ 60) (getD l (by + x) (pos 0))
+    lowering-small b h = subst (λ (t : List ℤ). Within (2 ^ 60) (getD t (by + x) (pos 0))) (sym (r .same)) (b .each x h)
+
+    pub lowering-more : {z : ℤ} → x < n → z ≡ lesser (getD l (at + x) (pos 0)) (a ⊕ getD l (by + x) (pos 0)) → Lowering at by a n l₀ (x + 1) (set l (at + x) z)
+    unfolding block
+    lowering-more {z} h e = rw (add-one x) (record { within = h; size = length-set l (at + x) z ∙ r .size; same = ap (set l (at + x)) e ∙ ap (lowerAt at by a x) (r .same) })
+
+    pub lowering-done : n ≤ x → l ≡ block at by a n l₀
+    lowering-done h = let e : x ≡ n = omega (arith, r .within) in r .same ∙ ap (λ (y : ℕ). block at by a y l₀) e
 
 -- the links below e poured
 pub record Pouring (d : Bool) (p : ℕ) (r : List ℕ) (n : ℕ) (xs ys : List ℕ) (cs l₀ : List ℤ) (e : ℕ) (l : List ℤ) : Type 0 where

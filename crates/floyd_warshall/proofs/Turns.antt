@@ -1,20 +1,22 @@
 -- What the list of the entries is in each turn of the three loops.
 -- A turn reads the row k and the entry of the row i in column k as they were before the round: round k leaves row k and column k, while no diagonal entry is
--- below zero. So the test of the diagonal entry may wait for the end of the row.
+-- below zero. So the test of the diagonal entry may wait for the end of its block of columns.
 -- Assumes nothing.
 use mathlib.Core.Path.{_≡_, refl, sym, ap, _∙_, subst}
 use mathlib.Core.Bool.{Bool, true, false, _||_}
 use mathlib.Core.List.{List}
-use Prim.Native.Nat.{ℕ, zero, suc, _+_, _*_, _^_, _≤_, _<_}
+use Prim.Native.Nat.{ℕ, zero, suc, _+_, _-_, _*_, _^_, _≤_, _<_}
 use native.Mathlib.Decide.{ℕ-discrete, decLt}
+use native.Mathlib.Nat.{mul-le-mul-right}
 use native.Mathlib.Numerals.{add-one}
 use native.Mathlib.Omega.{arith}
 use lib.IntN.{ℤ, pos, negsuc}
 use lib.ListN.{length, getD, set, length-set}
 use lib.Signed.{ltZ, _≤ℤ_, _<ℤ_}
-use Rattle.whole.specs.Zed.{_⊕_, P, N, zed, sum}
+use Rattle.whole.specs.Zed.{_⊕_, zed, sum, Within}
 use Rattle.whole.proofs.Cases.{or-no}
-use Rattle.floyd_warshall.specs.Rounds.{lesser, cell, after, Diagonal, reaching, anyBelow, Begun, Refused, Complete}
+use Rattle.matrix.proofs.Matrix.{square-small}
+use Rattle.floyd_warshall.specs.Rounds.{lesser, cell, block, Block, after, Diagonal, reaching, anyBelow, Begun, Refused, Complete}
 use Rattle.floyd_warshall.proofs.Cells.{cell-same, cell-row, cell-column}
 use Rattle.floyd_warshall.proofs.Triangle.{lesser-first, one-more, below-first, kept-row, stays-near}
 
@@ -112,8 +114,8 @@ module _ {p : ℕ} {l₀ : List ℤ} where
   turn-first {k} {i} {l} h r = record { begun = r .begun; turn = r .turn; here = h; at = omega arith; size = r .size; up = r .up; done = r .done; fine = r .fine; part = λ v q. absurd (omega arith); rest = λ v q. r .next i v (omega arith) h; next = λ u v q. r .next u v (omega arith) }
 
   -- while no diagonal entry is below zero, entries are small
-  small : (k : ℕ) → k < p → Begun p l₀ → Diagonal (cell p l₀) p k → (u v : ℕ) → u < p → v < p → P (after (cell p l₀) k u v) + N (after (cell p l₀) k u v) ≤ 2 ^ 60
-  small k h b d u v i j = let e : P (after (cell p l₀) k u v) + N (after (cell p l₀) k u v) ≤ 2 ^ 50 + 2 ^ 50 = stays-near (cell p l₀) p (2 ^ 50) k (omega arith) (b .near) d u v i j in omega arith
+  small : (k : ℕ) → k < p → Begun p l₀ → Diagonal (cell p l₀) p k → (u v : ℕ) → u < p → v < p → Within (2 ^ 60) (after (cell p l₀) k u v)
+  small k h b d u v i j = let e : Within (2 ^ 50 + 2 ^ 50) (after (cell p l₀) k u v) = stays-near (cell p l₀) p (2 ^ 50) k (omega arith) (b .near) d u v i j in omega arith
 
   module _ {k i j : ℕ} {l : List ℤ} (r : Turn p l₀ k i j l) (h : j < p) where
     -- the entry in row k that a turn reads
@@ -126,10 +128,10 @@ module _ {p : ℕ} {l₀ : List ℤ} where
         go (no q) (no e) = r .next k j (omega (arith, q, e)) (r .turn) h
 
     -- the entries that a turn adds are small
-    pub small-row : P (cell p l k j) + N (cell p l k j) ≤ 2 ^ 60
+    pub small-row : Within (2 ^ 60) (cell p l k j)
     small-row = rw reads-row (small k (r .turn) (r .begun) (r .up) k j (r .turn) h)
 
-    pub small-column : {a : ℤ} → a ≡ after (cell p l₀) k i k → P a + N a ≤ 2 ^ 60
+    pub small-column : {a : ℤ} → a ≡ after (cell p l₀) k i k → Within (2 ^ 60) a
     small-column e = rw e (small k (r .turn) (r .begun) (r .up) i k (r .here) (r .turn))
 
     -- one turn
@@ -156,6 +158,39 @@ module _ {p : ℕ} {l₀ : List ℤ} where
         go v (yes q) w = subst (λ (x : ℕ). cell p (set l (i * p + j) z) i x ≡ after (cell p l₀) (suc k) i x) (sym q) (cell-same p l i j z (r .size) (r .here) h ∙ value)
         go v (no q) w = cell-column p l i j v z q ∙ r .part v (omega (arith, q))
 
+  -- a block of columns: its turns, what it asks for, and where it ends
+  module _ {k i j : ℕ} {l : List ℤ} (r : Turn p l₀ k i j l) {a : ℤ} (e : a ≡ after (cell p l₀) k i k) where
+    here : (u n : ℕ) → u * p + (j + n) ≡ u * p + j + n
+    here u n = omega arith
+
+    turns : (n : ℕ) {v : ℕ} → j + n ≡ v → v ≤ p → Turn p l₀ k i v (block (i * p + j) (k * p + j) a n l)
+    unfolding block
+    turns zero {v} f h = let g : j ≡ v = omega (arith, f) in subst (λ (x : ℕ). Turn p l₀ k i x l) g r
+    turns (suc n) {v} f h =
+        let g : j + n + 1 ≡ v = omega (arith, f) in
+        let b = block (i * p + j) (k * p + j) a n l in
+        let z = lesser (getD b (i * p + j + n) (pos 0)) (a ⊕ getD b (k * p + j + n) (pos 0)) in
+        let y : z ≡ lesser (cell p b i (j + n)) (a ⊕ cell p b k (j + n)) = λ t. lesser (getD b (sym (here i n) t) (pos 0)) (a ⊕ getD b (sym (here k n) t) (pos 0)) in
+        let w : Turn p l₀ k i (j + n + 1) (set b (i * p + (j + n)) z) = turn-next (turns n refl (omega (arith, g))) (omega (arith, g)) e y in
+        subst (λ (x : ℕ). Turn p l₀ k i x (set b (i * p + j + n) z)) g (subst (λ (x : ℕ). Turn p l₀ k i (j + n + 1) (set b x z)) (here i n) w)
+
+    pub block-asks : j < p → Block (i * p + j) (k * p + j) a (p - j) l
+    block-asks h =
+        let row : suc i * p ≤ p * p = mul-le-mul-right p (r .here) in
+        let through : suc k * p ≤ p * p = mul-le-mul-right p (r .turn) in
+        record {
+          few = omega (arith, r .size, square-small p (r .begun .few));
+          within = omega (arith, r .size);
+          across = omega (arith, r .size);
+          small = small-column r h e;
+          each = λ x q.
+              let b = block (i * p + j) (k * p + j) a x l in
+              subst (λ (y : ℕ). Within (2 ^ 60) (getD b y (pos 0))) (here k x) (small-row (turns x refl (omega arith)) (omega arith));
+        }
+
+    pub block-done : (n : ℕ) {l′ : List ℤ} → j + n ≤ p → l′ ≡ block (i * p + j) (k * p + j) a n l → Turn p l₀ k i (j + n) l′
+    block-done n h f = subst (Turn p l₀ k i (j + n)) (sym f) (turns n refl h)
+
   -- one row more, as a list of entries and a diagonal entry
   row-more : {k i : ℕ} {l : List ℤ} → i < p → k < p → Begun p l₀ → length l ≡ p * p → Diagonal (cell p l₀) p k → ((u v : ℕ) → u < i → v < p → cell p l u v ≡ after (cell p l₀) (suc k) u v) → ((u : ℕ) → u < i → pos 0 ≤ℤ after (cell p l₀) (suc k) u u) → ((u v : ℕ) → i < u → u < p → v < p → cell p l u v ≡ after (cell p l₀) k u v)
       → ((v : ℕ) → v < p → cell p l i v ≡ after (cell p l₀) (suc k) i v) → pos 0 ≤ℤ after (cell p l₀) (suc k) i i → Rows p l₀ k (i + 1) l
@@ -179,13 +214,24 @@ module _ {p : ℕ} {l₀ : List ℤ} where
       on u (yes f) q = subst (λ (x : ℕ). pos 0 ≤ℤ after (cell p l₀) (suc k) x x) (sym f) diag
       on u (no f) q = fine u (omega (arith, f))
 
-  -- a row is done, and its diagonal entry is tested
-  module _ {k i j : ℕ} {l : List ℤ} (r : Turn p l₀ k i j l) (h : p ≤ j) where
-    pub row-done : ltZ (cell p l i i) (pos 0) ≡ false → Rows p l₀ k (i + 1) l
-    row-done e = row-more (r .here) (r .turn) (r .begun) (r .size) (r .up) (r .done) (r .fine) (r .next) (λ v w. r .part v (omega arith)) (subst (λ (z : ℤ). pos 0 ≤ℤ z) (r .part i (omega (arith, r .here))) (omega (arith, zed)))
+  -- the diagonal entry is tested: before the columns, where it stands as the round before left it, and after a block
+  pub up-first : {k i : ℕ} {l : List ℤ} → i < p → Rows p l₀ k i l → pos 0 ≤ℤ cell p l i i
+  up-first {k} {i} h r = subst (λ (z : ℤ). pos 0 ≤ℤ z) (sym (r .next i i (omega arith) h h)) (r .up k i (omega arith) h)
+
+  module _ {k i j : ℕ} {l : List ℤ} (r : Turn p l₀ k i j l) where
+    pub row-done : p ≤ j → pos 0 ≤ℤ cell p l i i → Rows p l₀ k (i + 1) l
+    row-done h e = row-more (r .here) (r .turn) (r .begun) (r .size) (r .up) (r .done) (r .fine) (r .next) (λ v w. r .part v (omega arith))
+        (subst (λ (z : ℤ). pos 0 ≤ℤ z) (r .part i (omega (arith, r .here))) e)
 
     pub row-refused : ltZ (cell p l i i) (pos 0) ≡ true → Refused p (cell p l₀)
-    row-refused e = record { k = suc k; u = i; turn = r .turn; within = r .here; low = subst (λ (z : ℤ). z <ℤ pos 0) (r .part i (omega (arith, r .here))) (omega (arith, zed)) }
+    row-refused e = go (decLt i j)
+      where
+        low : cell p l i i <ℤ pos 0
+        low = omega (arith, zed)
+
+        go : Dec (i < j) → Refused p (cell p l₀)
+        go (yes q) = record { k = suc k; u = i; turn = r .turn; within = r .here; low = subst (λ (z : ℤ). z <ℤ pos 0) (r .part i q) low }
+        go (no q) = record { k = k; u = i; turn = omega (arith, r .turn); within = r .here; low = subst (λ (z : ℤ). z <ℤ pos 0) (r .rest i (omega (arith, q)) (r .here)) low }
 
   -- a row that cannot change is done: row k has no entry below zero, and the entry in column k is as large as an entry can be
   pub row-skipped : {k i : ℕ} {l l₁ : List ℤ} {falls : Bool} {a : ℤ} → i < p → Round p l₀ k l₁ → Rows p l₀ k i l → falls ≡ anyBelow l₁ (k * p) 1 p → a ≡ after (cell p l₀) k i k → reaching falls a ≡ false → Rows p l₀ k (i + 1) l

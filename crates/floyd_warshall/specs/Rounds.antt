@@ -5,7 +5,7 @@ use mathlib.Core.Bool.{Bool, true, false, _||_}
 use mathlib.Core.List.{List}
 use Prim.Native.Nat.{ℕ, zero, suc, _+_, _*_, _^_, _≤_, _<_}
 use lib.IntN.{ℤ, pos}
-use lib.ListN.{length, getD}
+use lib.ListN.{length, getD, set}
 use lib.Signed.{ltZ, _≤ℤ_, _<ℤ_}
 use Rattle.whole.specs.Zed.{_⊕_, Within}
 
@@ -21,6 +21,23 @@ lesser a b = pickZ (ltZ b a) b a
 -- the entry in row u and column v of a matrix with p columns
 abbrev pub cell : ℕ → List ℤ → ℕ → ℕ → ℤ
 cell p l u v = getD l (u * p + v) (pos 0)
+
+-- the entry n places from `at` on, lowered to the sum of a and the entry n places from `by` on, where that is smaller
+abbrev pub lowerAt : ℕ → ℕ → ℤ → ℕ → List ℤ → List ℤ
+lowerAt at by a n l = set l (at + n) (lesser (getD l (at + n) (pos 0)) (a ⊕ getD l (by + n) (pos 0)))
+
+-- the first n of these entries, one after another
+unfoldable pub block : ℕ → ℕ → ℤ → ℕ → List ℤ → List ℤ
+block at by a zero l = l
+block at by a (suc n) l = lowerAt at by a n (block at by a n l)
+
+-- n entries from both places on lie in the list, and each sum is of small numbers when its turn comes
+pub record Block (at by : ℕ) (a : ℤ) (n : ℕ) (l : List ℤ) : Type 0 where
+  pub few : length l ≤ 1048576
+  pub within : at + n ≤ length l
+  pub across : by + n ≤ length l
+  pub small : Within (2 ^ 60) a
+  pub each : (x : ℕ) → x < n → Within (2 ^ 60) (getD (block at by a x l) (by + x) (pos 0))
 
 -- the matrix after k rounds
 unfoldable pub after : (ℕ → ℕ → ℤ) → ℕ → ℕ → ℕ → ℤ

@@ -5,12 +5,12 @@ ghost use mathlib.Core.Path.{_≡_};
 ghost use Prim.Native.Nat.{ℕ, _+_, _*_, _≤_, _<_, _^_};
 ghost use lib.IntN.{pos};
 ghost use lib.ListN.{length, getD};
-ghost use Rattle.whole.specs.Zed.{_⊕_, P, N};
+ghost use Rattle.whole.specs.Zed.{_⊕_, Within};
 ghost use Rattle.clean.specs.Fill.{filled};
 ghost use Rattle.table.specs.Links.{links};
 ghost use Rattle.net.specs.Net.{netOf, width};
 ghost use Rattle.floyd_warshall.specs.Promise.{Promise};
-ghost use Rattle.floyd_warshall.specs.Rounds.{lesser, reaching, anyBelow, Strided, Begun, Rounded};
+ghost use Rattle.floyd_warshall.specs.Rounds.{lesser, block, Block, reaching, anyBelow, Strided, Begun, Rounded};
 ghost use Rattle.floyd_warshall.specs.Filling.{Square, Started, Sound, Ranked, linked, poured, Costs, shown, MatrixShown, Solved, refusalNo};
 
 // What stands for "no walk" in the rounds: 2^50, far from every total.
@@ -19,9 +19,15 @@ const FAR: i64 = 1125899906842624;
 // Entries from 2^49 on are no totals. A sum with the large number may lie below it, but never so low.
 const NO_TOTAL: i64 = 562949953421312;
 
+// How many columns are lowered between two tests of the diagonal: so few that they are compiled without a loop.
+const BLOCK: usize = 16;
+
+// The same near the end of a row, and one by one where fewer are left.
+const SMALL: usize = 4;
+
 // What stands there, or the sum where that is smaller.
 fn shorter(old: i64, a: i64, b: i64) -> i64
-    requires { ⌜ (P a + N a ≤ 2 ^ 60) × (P b + N b ≤ 2 ^ 60) ⌝ }
+    requires { ⌜ (Within (2 ^ 60) a) × (Within (2 ^ 60) b) ⌝ }
     ensures { λ r. ⌜ r ≡ lesser old (a ⊕ b) ⌝ }
 {
     let s = a + b;
@@ -53,8 +59,37 @@ fn reaches(falls: bool, a: i64) -> bool
     a < FAR
 }
 
-// The rounds. A row has one diagonal entry, tested as soon as the row is done: the first one below zero ends all three loops.
-// No sum overflows until then, nor in the rest of that row, which is made of entries from before the round.
+// The n entries from one place on, each lowered to the sum of a and the entry as far from the other, where that is smaller.
+fn lower_block(cells: &mut [i64], at: usize, by: usize, a: i64, n: usize)
+    requires { ⌜ Block at by a n (now cells) ⌝ }
+    ensures { λ _. ⌜ now (cells .exit) ≡ block at by a n (now (cells .entry)) ⌝ }
+{
+    let mut x: usize = 0;
+    while x < n {
+        cells[at + x] = shorter(cells[at + x], a, cells[by + x]);
+        x += 1;
+    }
+}
+
+// The next block of a row that has so many columns left, lowered: how many columns are in it?
+fn lower_next(cells: &mut [i64], at: usize, by: usize, a: i64, left: usize) -> usize
+    requires { ⌜ (0 < left) × Block at by a left (now cells) ⌝ }
+    ensures { λ r. ⌜ (0 < r) × (r ≤ left) × (now (cells .exit) ≡ block at by a r (now (cells .entry))) ⌝ }
+{
+    if left < SMALL {
+        lower_block(cells, at, by, a, 1);
+        return 1;
+    }
+    if left < BLOCK {
+        lower_block(cells, at, by, a, SMALL);
+        return SMALL;
+    }
+    lower_block(cells, at, by, a, BLOCK);
+    BLOCK
+}
+
+// The rounds. The columns go by blocks, and a test follows each: the first diagonal entry below zero ends all three loops. No sum overflows
+// until then, nor in the rest of that block, which is made of entries from before the round.
 fn rounds(cells: &mut [i64], p: usize) -> bool
     requires { ⌜ Begun p (now cells) ⌝ }
     ensures { λ r. ⌜ Rounded p (now (cells .entry)) (now (cells .exit)) r ⌝ }
@@ -65,18 +100,17 @@ fn rounds(cells: &mut [i64], p: usize) -> bool
         let through = k * p;
         let falls = any_below(cells, through, 1, p);
         let mut i: usize = 0;
-        while i < p {
+        'rows: while i < p {
             let row = i * p;
             let a = cells[row + k];
             if reaches(falls, a) {
                 let mut j: usize = 0;
-                while j < p {
-                    cells[row + j] = shorter(cells[row + j], a, cells[through + j]);
-                    j += 1;
-                }
-                if whole::lower(cells[row + i], 0) {
-                    below = true;
-                    break 'rounds;
+                'columns: while j < p {
+                    j += lower_next(cells, row + j, through + j, a, p - j);
+                    if whole::lower(cells[row + i], 0) {
+                        below = true;
+                        break 'rounds;
+                    }
                 }
             }
             i += 1;
