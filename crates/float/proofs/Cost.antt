@@ -2,20 +2,20 @@
 -- so a distance and a good cost make a distance, and one that is no smaller.
 -- Assumes nothing.
 use mathlib.Core.Path.{_≡_, refl, sym, ap, _∙_, subst}
-use Prim.Native.Nat.{ℕ, zero, suc, _+_, _-_, _*_, _/_, _%_, _^_, _≤_, _<_, zero-le}
+use Prim.Native.Nat.{ℕ, zero, suc, _+_, _-_, _*_, _/_, _%_, _^_, _≤_, _<_}
 use native.Mathlib.Omega.{arith}
 use lib.IntN.{ℤ}
 use native.Mathlib.Nat.{lt-irrefl, lt-of-lt-of-le, lt-of-le-of-lt, mod-eq-of-lt, add-assoc, zero-add}
 use mathlib.Core.Bool.{Bool, true, false, not, _||_, cond, true≢false}
 use lib.Dec.{T, leb, ltb, eqb, leb→le, nleb→lt, lt→ltb, lit<, not-T}
-use lib.Ieee.{Float, nan, inf, fin, Format, binary32, binary64, lt, add, prec, low, hid, ones, top, odd, ofFields, ofBits, toBits, nanBits, isNan, fits, up, down, size}
+use lib.Ieee.{Float, nan, inf, fin, Format, binary32, binary64, lt, eq, add, prec, low, hid, ones, top, odd, ofFields, ofBits, toBits, nanBits, isNan, fits, up, down, size}
 use lib.Ieee.Bits.{is-true, is-false, nanBits-is, nanBits-above, ofBits-fits, ofBits-toBits, toBits-ofBits, toBits-lt}
 use lib.Ieee.Fits.{add-fits}
 use borrow.Author.Tests.{ltb-false}
 use Rattle.whole.proofs.Cases.{or-no, not-t}
 use Rattle.float.specs.Cost.{badCost}
 use Rattle.float.specs.Dist.{Dist64, zero64, lt64, plus64}
-use Rattle.float.proofs.Dist.{clear, Dist, odd-clear, add-dist, add-grows, le-not-lt, no-nan}
+use Rattle.float.proofs.Dist.{clear, Dist, odd-clear, add-dist, add-grows, le-not-lt, eq-same, no-nan}
 
 infinity-low : (f : Format) → ones f * hid f < top f
 infinity-low binary32 = lit< tt
@@ -108,6 +108,10 @@ dist-value d p = good-dist binary64 d p
 
 pub dist-back : (d : ℕ) → Dist64 d → toBits binary64 (ofBits binary64 d) ≡ d
 dist-back d p = toBits-ofBits binary64 d (omega (arith, dist-low d p)) (no-nan (ofBits binary64 d) (dist-value d p .is-clear))
+
+-- value equality fixes the bits
+pub dist-same : (a b : ℕ) → Dist64 a → Dist64 b → eq (ofBits binary64 a) (ofBits binary64 b) ≡ true → a ≡ b
+dist-same a b p q e = sym (dist-back a p) ∙ ap (toBits binary64) (eq-same binary64 (ofBits binary64 a) (ofBits binary64 b) (dist-value a p) (dist-value b q) e) ∙ dist-back b q
 
 -- ---- the distance 0.0, and the sum of a distance and a good cost
 pub zero-dist : Dist64 zero64

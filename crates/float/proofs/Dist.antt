@@ -6,7 +6,6 @@ use mathlib.Core.Logic.{_⊎_, inl, inr}
 use Prim.Native.Nat.{ℕ, zero, suc, _+_, _-_, _*_, _/_, _%_, _^_, _≤_, _<_}
 use native.Mathlib.Nat.{le-refl, le-trans, le-of-eq, le-of-lt, le-antisymm, lt-irrefl, lt-of-lt-of-le, lt-of-le-of-lt, lt-of-not-le, zero-mul, one-mul, mul-one, mul-comm, mul-assoc, mul-left-comm, mul-right-comm, mul-mul-mul-comm, mul-pos, mul-le-mul-right, mul-lt-mul-of-pos-right, lt-of-mul-lt-mul-right, mul-div-cancel, le-add-right, add-mul, zero-lt-suc, le-of-suc-le-suc, eq-or-lt-of-le}
 use native.Mathlib.Omega.{arith}
-use borrow.Author.Tests.{ltb-true, ltb-false, le-ltb}
 use mathlib.Core.Bool.{Bool, true, false, not, _&&_, _||_, cond, true≢false}
 use lib.IntN.{ℤ, pos, negsuc}
 use lib.Dec.{T, leb, ltb, eqb, leb→le, le→leb, ltb→lt, lt→ltb, nltb→le, eqb→eq, not-T}
@@ -205,19 +204,6 @@ le-rank f x y p q = le-not-lt x y (p .is-clear) (q .is-clear) ∙ ap not (lt-ran
     turn a b = same-test (not (ltb a b)) (leb b a) (λ t. le→leb b a (nltb→le a b t)) (λ t. not-T (ltb a b) (λ u. lt-irrefl a (lt-of-lt-of-le (ltb→lt a b u) (leb→le b a t))))
 
 -- ---- strict total order
--- as laws of the test: one way at most, not below carries on, and neither way is the same value
-pub lt-asym : (f : Format) (x y : Float) → Dist f x → Dist f y → lt x y ≡ true → lt y x ≡ false
-lt-asym f x y p q e = lt-rank f y x q p ∙ le-ltb (rank f y) (rank f x) (omega (arith, ltb-true (rank f x) (rank f y) (sym (lt-rank f x y p q) ∙ e)))
-
-pub lt-neg : (f : Format) (x y z : Float) → Dist f x → Dist f y → Dist f z → lt x y ≡ false → lt y z ≡ false → lt x z ≡ false
-lt-neg f x y z p q r e g =
-    lt-rank f x z p r ∙ le-ltb (rank f x) (rank f z) (omega (arith, ltb-false (rank f x) (rank f y) (sym (lt-rank f x y p q) ∙ e), ltb-false (rank f y) (rank f z) (sym (lt-rank f y z q r) ∙ g)))
-
-pub lt-same : (f : Format) (x y : Float) → Dist f x → Dist f y → lt x y ≡ false → lt y x ≡ false → x ≡ y
-lt-same f x y p q e g =
-    rank-inj f x y p q (omega (arith, ltb-false (rank f x) (rank f y) (sym (lt-rank f x y p q) ∙ e), ltb-false (rank f y) (rank f x) (sym (lt-rank f y x q p) ∙ g)))
-
--- as facts
 pub lt-none : (f : Format) (x : Float) → Dist f x → lt x x ≡ false
 lt-none f x p = lt-rank f x x p p ∙ sym (ltb-no (rank f x) (rank f x) (le-refl (rank f x)))
 

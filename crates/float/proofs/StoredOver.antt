@@ -5,7 +5,7 @@ use mathlib.Core.Path.{_≡_, sym, ap, _∙_}
 use mathlib.Core.Bool.{Bool, true, false, not, cond, _&&_, _||_}
 use Prim.Native.Nat.{ℕ}
 use native.Mathlib.Omega.{arith}
-use lib.Dec.{ltb, eqb, lt→ltb}
+use lib.Dec.{ltb, lt→ltb}
 use lib.Ieee.Bits.{is-true}
 use borrow.Author.Tests.{le-ltb}
 use Rattle.clean.specs.None.{noneF64}
