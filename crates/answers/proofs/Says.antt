@@ -1,35 +1,21 @@
 -- What is printed of an engine's answer: the refusal after a number, the lines after 0; and what the printing functions ask of it. A path that stands in a buffer is no
--- longer than the buffer. An f64 distance that is shown is a good key of the pending bag or none, and so not a NaN.
+-- longer than the buffer.
 -- Assumes nothing.
-use mathlib.Core.Path.{_≡_, refl, ap, _∙_}
-use mathlib.Core.Bool.{false}
+use mathlib.Core.Path.{_≡_, ap}
 use mathlib.Core.List.{List}
-use mathlib.Core.Option.{Option, none, some}
 use Prim.Native.Nat.{ℕ, _+_, _≤_}
 use native.Mathlib.Omega.{arith}
 use borrow.Author.Tests.{eq-eqb, ne-eqb}
-use lib.Ieee.{Float, nan, isNan}
 use lib.IntN.{ℤ}
 use lib.ListN.{length, length-append, drop}
-use Rattle.whole.proofs.Cases.{other}
 use Rattle.clean.specs.Fill.{filled}
-use Rattle.clean.specs.None.{noneU32, noneF64, shown}
-use Rattle.float.specs.Cutoff.{past}
-use Rattle.float.specs.Stored as stored
-use Rattle.float.specs.declared.Cutoff.{Cutoff}
-use Rattle.float.proofs.None.{stored-no-nan}
-use Rattle.table.specs.Lent.{FloatCost}
-use Rattle.net.specs.Net.{Net, OpenArcOf}
+use Rattle.clean.specs.None.{noneU32}
+use Rattle.net.specs.Net.{Net}
 use Rattle.pending.specs.Setting.{End}
-use Rattle.pending.specs.Floats.{search64}
-use Rattle.pending.proofs.Floats.{laws64}
-use Rattle.pending.proofs.Stored.{good-dist}
 use Rattle.lines.specs.Text.{Printed, decimalText, newlineText}
 use Rattle.lines.proofs.Digits.{decimal-text-length}
-use Rattle.text.specs.Asked.{NoNan}
 use Rattle.text.specs.Text.{refusedLine, answerText}
 use Rattle.a_star.specs.Promise as star
-use Rattle.dijkstra_path.specs.Promise as path
 use Rattle.answers.specs.Room.{most}
 
 module _ (t : List ℕ) {out after : List ℕ} {at r number : ℕ} where
@@ -67,16 +53,3 @@ path-fits {e = e} {r = r} p =
     go (star.noTarget a h i s t k) = blank a
     go (star.farGuess a h i s t f k) = blank a
     go {g} {b = b} (star.ran f o) = said (filled (g .bound) noneU32 (b .path)) (ap (λ (x : star.Buffers). x .path) (o .leaves)) (o .says)
-
--- none of the distances that engine 7 leaves after 0 is a NaN
-shown-no-nan : (o : Option Float) → ((d : Float) → o ≡ some d → stored.Stored d) → isNan (shown noneF64 o) ≡ false
-shown-no-nan none h = stored-no-nan stored.none
-shown-no-nan (some d) h = stored-no-nan (h d refl)
-
-pub no-nan : {g : Net FloatCost} {s : ℕ} {k : Cutoff} {b e : path.Buffers} {number : ℕ} → path.Promise g s k b e number → number ≡ 0 → NoNan (g .bound) (e .dist)
-no-nan (path.short n p q) z = λ v l. other 1 0 n z (λ y. omega arith)
-no-nan (path.outside n p i q) z = λ v l. other 2 0 n z (λ y. omega arith)
-no-nan (path.absent n p i h q) z = λ v l. other 3 0 n z (λ y. omega arith)
-no-nan (path.bad n p i h x r w q) z = λ v l. other 6 0 n z (λ y. omega arith)
-no-nan {g} {s} {k} (path.done n p i h x r w a q) z = λ v l.
-    ap isNan (a .dist .each v nan l) ∙ shown-no-nan (x .dist v) (λ d f. stored.some (good-dist (search64 (past k) none s) (laws64 (past k) none s) (OpenArcOf g) (r .run) v f))

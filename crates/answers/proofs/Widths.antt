@@ -6,7 +6,6 @@ use mathlib.Core.Path.{ap}
 use Prim.Native.Nat.{ℕ, zero, suc, _+_, _*_, _≤_}
 use native.Mathlib.Nat.{mul-le-mul-left, mul-le-mul-right}
 use native.Mathlib.Omega.{arith}
-use lib.Ieee.{Float}
 use lib.IntN.{ℤ}
 use lib.Signed.{ltZ}
 use lib.ListN.{length, take, length-append}
@@ -32,7 +31,7 @@ pub distances-short : (has : ℕ → Bool) (m : ℕ) (dist : List ℤ) → m ≤
 distances-short has m dist h = omega (arith, each-width has (distanceLine dist) 43 (distance-line-width dist) m)
 
 -- f64 distances and predecessors
-pub tree-short : (has : ℕ → Bool) (m : ℕ) (dist : List Float) (preds : List ℕ) → m ≤ 64 → length (treeLines has m dist preds) ≤ most
+pub tree-short : (has : ℕ → Bool) (m : ℕ) (dist preds : List ℕ) → m ≤ 64 → length (treeLines has m dist preds) ≤ most
 tree-short has m dist preds h = omega (arith, each-width has (treeLine dist preds) 59 (tree-line-width dist preds) m)
 
 -- rows of a matrix, for at most 64 indices

@@ -7,7 +7,6 @@ use Prim.Native.Nat.{ℕ}
 use lib.IntN.{ℤ, pos}
 use lib.ListN.{replicate}
 use Rattle.lines.specs.Text.{Printed}
-use Rattle.float.specs.Dist.{zero64}
 use Rattle.float.specs.declared.Cutoff.the-variants.{None}
 use Rattle.table.specs.Lent.{FloatCost}
 use Rattle.net.specs.Net.{Net, has}
@@ -79,5 +78,5 @@ Hops g =
 -- 7: f64 distances and predecessors from the source, without a cutoff
 abbrev pub DijkstraPath : Net FloatCost → ℕ → List ℕ → Type 0
 DijkstraPath g source =
-    Shown (λ no e. path.Promise g source None (path.buffersOf (replicate 64 zero64) (zeros 64) (zeros 65) (zeros 1024) (zeros 1024) (zeros 64) (zeros 64) (replicate 64 zero64)) e no)
+    Shown (λ no e. path.Promise g source None (path.buffersOf (zeros 64) (zeros 64) (zeros 65) (zeros 1024) (zeros 1024) (zeros 64) (zeros 64) (zeros 64)) e no)
     (λ e. treeLines (has g) (g .bound) (e .dist) (e .preds))

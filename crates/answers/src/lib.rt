@@ -6,7 +6,6 @@ ghost use lib.ListN.{length};
 ghost use Rattle.lines.specs.Text.{Printed};
 ghost use Rattle.table.specs.Links.{present};
 ghost use Rattle.net.specs.Net.{netOf, netOf64};
-ghost use Rattle.text.specs.Asked.{NoNan};
 ghost use Rattle.text.specs.Text.{distanceText, indexText, distanceLines, pathLines, rowLines, treeLines, answerText};
 ghost use Rattle.answers.specs.Room.{Fits, most};
 ghost use Rattle.answers.specs.Answers.{Written, Dijkstra, BellmanFord, AStar, FloydWarshall, Johnson, Hops, DijkstraPath};
@@ -86,12 +85,12 @@ fn say_tree(
     number: usize,
     bound: usize,
     marks: &[u8],
-    dist: &[f64],
+    dist: &[u64],
     preds: &[u32],
     out: &mut [u8],
     at: usize,
 ) -> usize
-    requires { ⌜ (bound ≤ 64) × (bound ≤ length (now marks)) × (bound ≤ length (now dist)) × (bound ≤ length (now preds)) × (at + most ≤ length (now out)) × (number ≡ 0 → NoNan bound (now dist)) ⌝ }
+    requires { ⌜ (bound ≤ 64) × (bound ≤ length (now marks)) × (bound ≤ length (now dist)) × (bound ≤ length (now preds)) × (at + most ≤ length (now out)) ⌝ }
     ensures { λ r. ⌜ Printed (now (out .entry)) at (answerText number (treeLines (present bound (now (marks .entry))) bound (now (dist .entry)) (now (preds .entry)))) (now (out .exit)) r ⌝ }
     ensures { λ r. ⌜ r ≤ at + most ⌝ }
 {
@@ -399,14 +398,14 @@ pub fn answer_dijkstra_path(
     ensures { λ r. ⌜ Written (DijkstraPath (netOf64 (map .bound) (map .count) (map .directed) (now (marks .entry)) (now (from .entry)) (now (to .entry)) (now (bits .entry)) (now (opens .entry))) source) (now (out .entry)) at (now (out .exit)) r ⌝ }
     ensures { λ r. ⌜ r ≤ at + most ⌝ }
 {
-    let mut dist = [0.0f64; 64];
+    let mut dist = [0u64; 64];
     let mut preds = [0u32; 64];
     let mut offsets = [0usize; 65];
     let mut heads = [0u16; 1024];
     let mut weights = [0u64; 1024];
     let mut heap = [0usize; 64];
     let mut places = [0usize; 64];
-    let mut keys = [0.0f64; 64];
+    let mut keys = [0u64; 64];
     let bound = map.bound;
     let number = dijkstra_path::dijkstra_path_f64(
         map,

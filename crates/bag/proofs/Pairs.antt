@@ -3,21 +3,28 @@
 -- was out.
 -- What a push and a take make of a bag, once for every kind of key: the content, how many there are, and the words.
 -- Assumes nothing.
-use mathlib.Core.Path.{_≡_, sym, ap, subst, _∙_}
-use mathlib.Core.Bool.{false}
+use mathlib.Core.Path.{_≡_, refl, sym, ap, subst, _∙_}
+use mathlib.Core.Bool.{Bool, true, false}
 use mathlib.Core.List.{List}
 use mathlib.Core.Option.{none, some}
-use Prim.Native.Nat.{ℕ, _+_, _-_, _≤_, _<_}
+use Prim.Native.Nat.{ℕ, _+_, _-_, _≤_, _<_, zero-le}
 use native.Mathlib.Omega.{arith}
 use native.Mathlib.Decide.{ℕ-discrete}
+use lib.Dec.{ltb}
+use borrow.Author.Tests.{ltb-true, ltb-false}
 use lib.ListN.{getD, length, set, length-set}
 use lib.Seq.{getD-set-same, getD-set-other}
 use Rattle.bag.specs.Order.{before}
 use Rattle.bag.specs.Keys.{Keys}
 use Rattle.bag.specs.Content.{contentOf, IsLeast, held}
-use Rattle.bag.specs.Peaks.{Peaks}
+use Rattle.bag.specs.Peaks.{peak, Peaks, FirstOf}
 use Rattle.bag.specs.Bag.{Bag, NotAbove}
+use Rattle.bag.proofs.Largest.{peak-above}
 use Rattle.bag.proofs.Content.{inside, Some, some-held, same-some, any-default, content-out, content-in, held-place, held-key, place-held, held-same, held-in, held-out}
+
+-- what words owe the order of pairs: a pair does not stand before one whose word is no smaller, if its index is no smaller where the two words are one
+abbrev pub Told : {K : Type 0} → Keys K → Type 0
+Told {K} o = (j : K) (u : ℕ) (k : K) (v : ℕ) → o .ok j → o .ok k → u < 1024 → v < 1024 → o .word j u ≤ o .word k v → (o .word j u ≡ o .word k v → v ≤ u) → before (o .lt) j u k v ≡ false
 
 module _ {K : Type 0} (o : Keys K) where
   -- ---- a take
@@ -29,6 +36,36 @@ module _ {K : Type 0} (o : Keys K) where
     -- so there is a place
     pub room : 0 < n → 0 < length places
     room more = omega (arith, inside places (any more .at) (any more .is))
+
+    -- the largest word is not 0
+    under : (u : ℕ) → 0 < getD places u 0 → getD places u 0 ≤ peak places 0 (length places)
+    under u s = peak-above places 0 (length places) u zero-le (omega (arith, inside places u s))
+
+    pub most-some : 0 < n → 0 < peak places 0 (length places)
+    most-some more = omega (arith, any more .is, under (any more .at) (any more .is))
+
+    -- the first index that has it is pending, and no pair stands before its pair
+    module _ (told : Told o) (more : 0 < n) (r : ℕ) (F : FirstOf places 0 (length places) (peak places 0 (length places)) r) where
+      pub first-has : 0 < getD places r 0
+      first-has = omega (arith, F .is, most-some more)
+
+      pub first-in : r < length places
+      first-in = inside places r first-has
+
+      pub first-first : (u : ℕ) → 0 < getD places u 0 → before (o .lt) (getD keys u (o .none)) u (getD keys r (o .none)) r ≡ false
+      first-first u s =
+          told (getD keys u (o .none)) u (getD keys r (o .none)) r (B .okay u s) (B .okay r first-has) (omega (arith, inside places u s, B .shape .few)) (omega (arith, F .to, B .shape .few))
+          (omega (arith, word-u, word-r, under u s, F .is)) (λ e. no-later e (ltb u r) refl)
+        where
+          word-u : getD places u 0 ≡ o .word (getD keys u (o .none)) u
+          word-u = B .word u s
+
+          word-r : getD places r 0 ≡ o .word (getD keys r (o .none)) r
+          word-r = B .word r first-has
+
+          no-later : o .word (getD keys u (o .none)) u ≡ o .word (getD keys r (o .none)) r → (t : Bool) → ltb u r ≡ t → r ≤ u
+          no-later e true f = absurd (F .no-sooner u zero-le (ltb-true u r f) (word-u ∙ e ∙ sym word-r ∙ F .is))
+          no-later e false f = ltb-false u r f
 
     module _ (r : ℕ) (has : 0 < getD places r 0) where
       r< : r < length places

@@ -213,14 +213,14 @@ pub extern "C" fn dimetumble_dijkstra_path_impl(
     source: usize,
     capped: u8,
     cutoff: f64,
-    dist: &mut [f64],
+    dist: &mut [u64],
     preds: &mut [u32],
     offsets: &mut [usize],
     heads: &mut [u16],
     weights: &mut [u64],
     heap: &mut [usize],
     places: &mut [usize],
-    keys: &mut [f64],
+    keys: &mut [u64],
 ) -> usize
     ensures { λ r. ⌜ dijkstra_path.Promise (netOf64 bound count (isSet directed) (now (marks .entry)) (now (from .entry)) (now (to .entry)) (now (bits .entry)) (now (opens .entry))) source (limitOf capped cutoff) (dijkstra_path.buffersOf (now (dist .entry)) (now (preds .entry)) (now (offsets .entry)) (now (heads .entry)) (now (weights .entry)) (now (heap .entry)) (now (places .entry)) (now (keys .entry))) (dijkstra_path.buffersOf (now (dist .exit)) (now (preds .exit)) (now (offsets .exit)) (now (heads .exit)) (now (weights .exit)) (now (heap .exit)) (now (places .exit)) (now (keys .exit))) r ⌝ }
 {
@@ -262,14 +262,14 @@ pub extern "C" fn dimetumble_dijkstra_path_f64(
     source: usize,
     capped: u8,
     cutoff: f64,
-    dist: &mut [f64],
+    dist: &mut [u64],
     preds: &mut [u32],
     offsets: &mut [usize],
     heads: &mut [u16],
     weights: &mut [u64],
     heap: &mut [usize],
     places: &mut [usize],
-    keys: &mut [f64],
+    keys: &mut [u64],
 ) -> usize
     ensures { λ r. ⌜ dijkstra_path.Promise (netOf64 bound count (isSet directed) (now (marks .entry)) (now (from .entry)) (now (to .entry)) (now (bits .entry)) (now (opens .entry))) source (limitOf capped cutoff) (dijkstra_path.buffersOf (now (dist .entry)) (now (preds .entry)) (now (offsets .entry)) (now (heads .entry)) (now (weights .entry)) (now (heap .entry)) (now (places .entry)) (now (keys .entry))) (dijkstra_path.buffersOf (now (dist .exit)) (now (preds .exit)) (now (offsets .exit)) (now (heads .exit)) (now (weights .exit)) (now (heap .exit)) (now (places .exit)) (now (keys .exit))) r ⌝ }
 {

@@ -13,7 +13,6 @@ use mathlib.Core.Option.{none}
 use Prim.Native.Nat.{ℕ}
 use native.Mathlib.Omega.{arith}
 use lib.IntN.{ℤ}
-use lib.Ieee.{Float}
 use Rattle.whole.proofs.Cases.{clash, other}
 use Rattle.float.specs.Cutoff.{past}
 use Rattle.float.specs.declared.Cutoff.{Cutoff}
@@ -44,7 +43,7 @@ a-star-bag (star.farGuess p n i s t h f) w = absurd (clash (w .fair) h)
 a-star-bag {g} {q} (star.ran v o) w = (o .end, o .path, literal-exactly g q (o .end) .0 (o .ends), o .says, o .leaves)
 
 -- ---- `dijkstra_path_impl`, `dijkstra_path_f64`
-pub dijkstra-path-literal : (g : Net FloatCost) (s : ℕ) (k : Cutoff) (x : End Float) → search.EndsIn g s k x ↔ Lit.Ends (search64 (past k) none s) (openRows g) (Lit.start (search64 (past k) none s)) x
+pub dijkstra-path-literal : (g : Net FloatCost) (s : ℕ) (k : Cutoff) (x : End ℕ) → search.EndsIn g s k x ↔ Lit.Ends (search64 (past k) none s) (openRows g) (Lit.start (search64 (past k) none s)) x
 dijkstra-path-literal g s k x = (λ r. same .0 (r .run), λ r. record { run = same .1 r })
   where
     open-rows : (u v c : ℕ) → OpenArcOf g u v c ↔ Set.ArcOf (openRows g) u v c
@@ -57,7 +56,7 @@ dijkstra-path-literal g s k x = (λ r. same .0 (r .run), λ r. record { run = sa
     same = literal-ends (search64 (past k) none s) (laws64 (past k) none s) (OpenArcOf g) (openRows g) open-rows x
 
 pub dijkstra-path-bag : {g : Net FloatCost} {s : ℕ} {k : Cutoff} {b e : search.Buffers} {no : ℕ} → search.Promise g s k b e no → search.enough g b ≡ true → insideNet g ≡ true → has g s ≡ true →
-    (x : End Float) × Lit.Ends (search64 (past k) none s) (openRows g) (Lit.start (search64 (past k) none s)) x × (no ≡ x .number) × (no ≡ 0 → search.Answers (g .bound) x b e)
+    (x : End ℕ) × Lit.Ends (search64 (past k) none s) (openRows g) (Lit.start (search64 (past k) none s)) x × (no ≡ x .number) × (no ≡ 0 → search.Answers (g .bound) x b e)
 dijkstra-path-bag (search.short n p q) l i h = absurd (clash l p)
 dijkstra-path-bag (search.outside n p j q) l i h = absurd (clash i j)
 dijkstra-path-bag (search.absent n p j w q) l i h = absurd (clash h w)

@@ -13,7 +13,6 @@ use mathlib.Core.Logic.{_⊎_, inl, inr, ⊎-elim, _↔_}
 use Prim.Native.Nat.{ℕ, zero, suc, _+_, _≤_, _<_}
 use native.Mathlib.Omega.{arith}
 use lib.IntN.{ℤ}
-use lib.Ieee.{Float}
 use lib.ListN.{length, take, set}
 use Rattle.whole.proofs.Cases.{clash, other}
 use Rattle.float.specs.declared.Cutoff.{Cutoff}
@@ -196,7 +195,7 @@ module _ {g : Net FloatCost} {s : ℕ} {k : Cutoff} {b e : search.Buffers} {no :
         ((no ≡ 1) ↔ (search.enough g b ≡ false))
         × ((no ≡ 2) ↔ ((search.enough g b ≡ true) × (insideNet g ≡ false)))
         × ((no ≡ 3) ↔ ((search.enough g b ≡ true) × (insideNet g ≡ true) × (has g s ≡ false)))
-        × ((no ≡ 6) ↔ ((search.enough g b ≡ true) × (insideNet g ≡ true) × (has g s ≡ true) × (x : End Float) × search.EndsIn g s k x × (x .number ≡ 6)))
+        × ((no ≡ 6) ↔ ((search.enough g b ≡ true) × (insideNet g ≡ true) × (has g s ≡ true) × (x : End ℕ) × search.EndsIn g s k x × (x .number ≡ 6)))
     dijkstra-path-exactly = (search-laws.one-exactly p, search-laws.two-exactly p, search-laws.three-exactly p, search-laws.six-exactly p)
 
     pub dijkstra-path-settled : {e′ : search.Buffers} {no′ : ℕ} → search.Promise g s k b e′ no′ → (no ≡ no′) × (e ≡ e′)

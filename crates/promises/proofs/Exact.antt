@@ -14,7 +14,7 @@ use native.Mathlib.Omega.{arith}
 use lib.IntN.{ℤ, pos}
 use lib.Signed.{_<ℤ_}
 use lib.ListN.{getD}
-use lib.Ieee.{Float, nan, inf}
+use lib.Ieee.{nan, inf}
 use Rattle.whole.specs.Zed.{zed}
 use Rattle.whole.proofs.Cases.{clash, other}
 use Rattle.clean.specs.None.{noneI64, noneF64, shown}
@@ -83,7 +83,7 @@ module _ {g : Net ℤ} {h : Net FloatCost} (k : Converted g h) where
   from u v x a = let t = arc-from u v (floatCost x true) a in (t .0, t .1, subst (WholeCost (t .0)) (ap (λ (y : FloatCost). y .bits) (t .2)) (whole-cost u v (t .0) (t .1)))
 
 -- an entry and the f64 entry that shows the same are one number, which f64 holds exactly, or both none
-same-number : {Arc : ℕ → ℕ → ℤ → Type 0} {s v : ℕ} {d : ℤ} {x : Float} (y : Option ℤ) → d ≡ shown noneI64 y → search-exact.SameNumber y x → Entry Arc s v d → SameNumber d x
+same-number : {Arc : ℕ → ℕ → ℤ → Type 0} {s v : ℕ} {d : ℤ} {x : ℕ} (y : Option ℤ) → d ≡ shown noneI64 y → search-exact.SameNumber y x → Entry Arc s v d → SameNumber d x
 same-number none e q t = neither e q
 same-number {d} (some z) e q t =
     let n : ℕ = q .0 in

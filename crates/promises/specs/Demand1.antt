@@ -7,7 +7,6 @@ use mathlib.Core.List.{List, [], _∷_}
 use mathlib.Core.Logic.{_⊎_, _↔_}
 use Prim.Native.Nat.{ℕ, _+_, _*_, _≤_, _<_}
 use lib.IntN.{ℤ}
-use lib.Ieee.{Float}
 use lib.ListN.{length, take, set}
 use Rattle.clean.specs.Fill.{filled}
 use Rattle.clean.specs.None.{noneI64}
@@ -93,7 +92,7 @@ dijkstraPathRows g s k b e =
     numbered 1 (search.enough g b ≡ false) (e ≡ b)
     ∷ numbered 2 (insideNet g ≡ false) (e ≡ b)
     ∷ numbered 3 (has g s ≡ false) (e ≡ b)
-    ∷ numbered 6 ((x : End Float) × search.EndsIn g s k x × (x .number ≡ 6)) (e ≡ search.blank g b)
+    ∷ numbered 6 ((x : End ℕ) × search.EndsIn g s k x × (x .number ≡ 6)) (e ≡ search.blank g b)
     ∷ done (Kept (g .bound) (b .dist) (e .dist) × Kept (g .bound) (b .preds) (e .preds) × (e ≡ search.left g b (e .dist) (e .preds)))
     ∷ []
 

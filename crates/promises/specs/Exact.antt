@@ -6,7 +6,7 @@ use mathlib.Core.List.{List, map}
 use Prim.Native.Nat.{ℕ, _≤_, _<_, _^_}
 use lib.IntN.{ℤ, pos}
 use lib.ListN.{getD}
-use lib.Ieee.{Float, binary64, ofInt, toBits}
+use lib.Ieee.{binary64, ofInt, toBits}
 use Rattle.clean.specs.None.{noneI64, noneF64}
 use Rattle.table.specs.Links.{Link, linkOf}
 use Rattle.table.specs.Lent.{FloatCost, floatCost}
@@ -35,12 +35,12 @@ pub record Converted (g : Net ℤ) (h : Net FloatCost) : Type 0 where
   pub links : linksOf h ≡ map converted (linksOf g)
   pub whole : (u v : ℕ) (c : ℤ) → ArcOf g u v c → WholeSize c
 
--- an integer distance and an f64 one are the same number, or both none; a whole number up to 2^53 is exact in f64
-pub data SameNumber (d : ℤ) (x : Float) : Type 0 where
+-- an integer distance and the pattern of an f64 one are the same number, or both none; a whole number up to 2^53 is exact in f64
+pub data SameNumber (d : ℤ) (x : ℕ) : Type 0 where
   neither : d ≡ noneI64 → x ≡ noneF64 → SameNumber d x
-  both : (n : ℕ) → n ≤ 2 ^ 53 → d ≡ pos n → x ≡ ofInt binary64 (pos n) → SameNumber d x
+  both : (n : ℕ) → n ≤ 2 ^ 53 → d ≡ pos n → x ≡ pattern (pos n) → SameNumber d x
 
 -- answers that agree: the number, and after 0 each of the first m distances
-pub record Agrees (m : ℕ) (dist : List ℤ) (dist64 : List Float) (no no′ : ℕ) : Type 0 where
+pub record Agrees (m : ℕ) (dist : List ℤ) (dist64 : List ℕ) (no no′ : ℕ) : Type 0 where
   pub number : no ≡ no′
   pub distances : no ≡ 0 → (v : ℕ) → v < m → SameNumber (getD dist v (pos 0)) (getD dist64 v noneF64)

@@ -40,7 +40,7 @@ fn cutoff(capped: u64, bits: u64) -> Cutoff {
 // Number, distances, predecessors.
 fn is_search_same(
     number: usize,
-    dist: &[f64],
+    dist: &[u64],
     preds: &[u32],
     n: usize,
     list: &[u8],
@@ -68,14 +68,14 @@ fn path_impl(
     let source = words::whole(list, at);
     let capped = words::whole(list, source.next);
     let most = words::bits(list, capped.next);
-    let mut dist = [0.0f64; 8];
+    let mut dist = [0u64; 8];
     let mut preds = [0u32; 8];
     let mut offsets = [0usize; 9];
     let mut heads = [0u16; 32];
     let mut weights = [0u64; 32];
     let mut heap = [0usize; 8];
     let mut places = [0usize; 8];
-    let mut keys = [0.0f64; 8];
+    let mut keys = [0u64; 8];
     let number = dijkstra_path::dijkstra_path_impl(
         map,
         marks,
@@ -111,14 +111,14 @@ fn path_f64(
     let source = words::whole(list, at);
     let capped = words::whole(list, source.next);
     let most = words::bits(list, capped.next);
-    let mut dist = [0.0f64; 8];
+    let mut dist = [0u64; 8];
     let mut preds = [0u32; 8];
     let mut offsets = [0usize; 9];
     let mut heads = [0u16; 32];
     let mut weights = [0u64; 32];
     let mut heap = [0usize; 8];
     let mut places = [0usize; 8];
-    let mut keys = [0.0f64; 8];
+    let mut keys = [0u64; 8];
     let number = dijkstra_path::dijkstra_path_f64(
         map,
         marks,

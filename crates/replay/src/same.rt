@@ -88,15 +88,15 @@ pub fn u32s(got: &[u32], n: usize, list: &[u8], at: usize) -> Seen {
 }
 
 // Has a distance the word's bits, or are both none?
-fn is_total(d: f64, word: words::Word) -> bool {
-    if d >= 0.0 {
-        return !word.none && f64::to_bits(d) == word.size;
+fn is_total(d: u64, word: words::Word) -> bool {
+    if d == clean::NONE_F64 {
+        return word.none;
     }
-    word.none
+    !word.none && d == word.size
 }
 
 // The first n of these: distances of the f64 engine.
-pub fn f64s(got: &[f64], n: usize, list: &[u8], at: usize) -> Seen {
+pub fn f64s(got: &[u64], n: usize, list: &[u8], at: usize) -> Seen {
     let mut same = true;
     let mut place = at;
     let mut i: usize = 0;

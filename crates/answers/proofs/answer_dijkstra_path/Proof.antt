@@ -1,21 +1,17 @@
--- `answers::answer_dijkstra_path` meets its contract: the promise of the question, and the text of what it left, where no distance is a NaN.
+-- `answers::answer_dijkstra_path` meets its contract: the promise of the question, and the text of what it left.
 -- Assumes nothing.
 use borrow.Author.Needs.{needs}
 use Rattle.answers.proofs.answer_dijkstra_path.Statement.{statement}
 use Rattle.answers.proofs.answer_dijkstra_path.Tie as tie
 use mathlib.Core.Path.{refl}
-use lib.Ieee.{ofBits}
-use Rattle.float.specs.Dist.{zero64}
 use native.Mathlib.Omega.{arith}
-use Rattle.answers.proofs.Says.{no-nan}
 
 say-tree-requires : tie.Need-say-tree-requires
 say-tree-requires c κs =
     let p = c .before .before .before .before .before .before .before .before .before .before .before .before .before .before .before .before .before .before .before .before .before .before .before .before .before .before .pre in
-    (p .few, p .marked, omega (arith, p .few), omega (arith, p .few), p .room, no-nan (c .before .before .before .before .before .before .before .before .before .before .before .dijkstra-path-f64 .ensures))
+    (p .few, p .marked, omega (arith, p .few), omega (arith, p .few), p .room)
 
 returns : tie.Need-returns
-unfolding zero64 ofBits
 returns c =
     let p = c .before .before .say-tree .ensures in
     (record { text = _; allowed = record { number = _; left = _; promise = c .before .before .before .before .before .before .before .before .before .before .before .before .before .before .dijkstra-path-f64 .ensures; says = refl }; printed = p .0 }, p .1)

@@ -1,4 +1,4 @@
--- `answers::say_tree` meets its contract: the refusal after a number, the lines after 0, where no distance is a NaN.
+-- `answers::say_tree` meets its contract: the refusal after a number, the lines after 0.
 -- Assumes nothing.
 use borrow.Author.Needs.{needs}
 use Rattle.answers.proofs.say_tree.Statement.{statement}
@@ -17,7 +17,7 @@ returns c =
 print-tree-requires : tie.Need-print-tree-requires
 print-tree-requires c κs =
     let p = c .before .before .before .before .before .before .pre in
-    (p .1, p .2, p .3, omega (arith, p .0, p .4), p .5 (c .before .if1 .left))
+    (p .1, p .2, p .3, omega (arith, p .0, p .4))
 
 returns-2 : tie.Need-returns-2
 returns-2 c =
