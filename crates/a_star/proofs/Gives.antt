@@ -7,7 +7,7 @@ use mathlib.Core.Bool.{true}
 use mathlib.Core.List.{List, [], _∷_, reverse, reverse-reverse}
 use mathlib.Core.Logic.{_⊎_, inl, inr, _↔_}
 use mathlib.Core.Option.{Option, none, some}
-use Prim.Native.Nat.{ℕ, suc, _≤_, _<_}
+use Prim.Native.Nat.{ℕ, suc, _<_}
 use native.Mathlib.Omega.{arith}
 use borrow.Author.Tests.{eq-eqb}
 use lib.IntN.{ℤ, pos}
@@ -27,7 +27,7 @@ use Rattle.pending.specs.Setting.{End}
 use Rattle.pending.specs.OnePlace.{Cell, out, has as held, distOf, doneAt, begin, Ends, empty, found, wrong, more}
 use Rattle.pending.specs.Reach.{Admissible}
 use Rattle.pending.proofs.Cells.{upd-cases, upd-here, not-out}
-use Rattle.net.specs.Net.{Net, ArcOf, has, width, sizeOf}
+use Rattle.net.specs.Net.{Net, ArcOf, has, sizeOf}
 use Rattle.net.proofs.Same.{arc-has}
 use Rattle.net.proofs.Cheapest.{net-path-total}
 use Rattle.a_star.specs.Promise.{Question, Answer, answerOf, without, Buffers, Fine, atFront, searchOf, Says, bad, unreached, reached, Outcome, Promise, short, outside, noSource, noTarget, farGuess, ran}
@@ -98,9 +98,13 @@ zero-modest g q zero up = record { at-target = zero (q .target); under = λ v h 
 abbrev NoWalk : Net ℤ → Question → Type 0
 NoWalk g q = (t : ℤ) → Walk (ArcOf g) (q .source) (q .target) t → ⊥
 
+-- a path is given: a walk's total as the cost, not below zero
+abbrev Found : Net ℤ → Question → Answer → Type 0
+Found g q r = (pos 0 ≤ℤ r .cost) × (0 < r .length) × Walk (ArcOf g) (q .source) (q .target) (r .cost)
+
 module _ {g : Net ℤ} {q : Question} {b : Buffers} where
-  -- without a refusal: no cost and no path where no walk leads to the target; else a path, and a walk's total as the cost, not below zero
-  none-or-given : {e : Buffers} {r : Answer} → Promise g q b e r → r .number ≡ 0 → ((r ≡ without 0) × NoWalk g q) ⊎ ((pos 0 ≤ℤ r .cost) × (0 < r .length) × Walk (ArcOf g) (q .source) (q .target) (r .cost))
+  -- without a refusal: no cost and no path where no walk leads to the target, else both
+  none-or-given : {e : Buffers} {r : Answer} → Promise g q b e r → r .number ≡ 0 → ((r ≡ without 0) × NoWalk g q) ⊎ Found g q r
   none-or-given (short p e f) z = absurd (omega (arith, z, ap (λ (x : Answer). x .number) p))
   none-or-given (outside p e i f) z = absurd (omega (arith, z, ap (λ (x : Answer). x .number) p))
   none-or-given (noSource p e i s f) z = absurd (omega (arith, z, ap (λ (x : Answer). x .number) p))
@@ -108,21 +112,30 @@ module _ {g : Net ℤ} {q : Question} {b : Buffers} where
   none-or-given (farGuess p e i s t h f) z = absurd (omega (arith, z, ap (λ (x : Answer). x .number) p))
   none-or-given {e} {r} (ran w o) z = go (o .says)
     where
-      go : {l : List ℕ} → Says (ArcOf g) q (o .end) r l → ((r ≡ without 0) × NoWalk g q) ⊎ ((pos 0 ≤ℤ r .cost) × (0 < r .length) × Walk (ArcOf g) (q .source) (q .target) (r .cost))
+      go : {l : List ℕ} → Says (ArcOf g) q (o .end) r l → ((r ≡ without 0) × NoWalk g q) ⊎ Found g q r
       go (bad y p i) = absurd (omega (arith, z, ap (λ (x : Answer). x .number) p))
       go (unreached y n p i) = inl (p, answered q (o .ends) .unreached y n)
       go (reached y d n c p i) =
           let k = got q (o .ends) (q .target) d n in
           let cost : d ≡ r .cost = sym (ap (λ (x : Answer). x .cost) p) in
-          inr (subst (λ (x : ℤ). pos 0 ≤ℤ x) cost (k .up), omega (arith, ap (λ (x : Answer). x .length) p, ap length i, length-reverse (passed c), passed-length c), subst (Walk (ArcOf g) (q .source) (q .target)) cost (k .walk))
+          let some : 0 < r .length = omega (arith, ap (λ (x : Answer). x .length) p, ap length i, length-reverse (passed c), passed-length c) in
+          inr (subst (λ (x : ℤ). pos 0 ≤ℤ x) cost (k .up), some, subst (Walk (ArcOf g) (q .source) (q .target)) cost (k .walk))
 
   -- so no path exactly without a walk
   pub none-exactly : {e : Buffers} {r : Answer} → Promise g q b e r → r .number ≡ 0 → (r .length ≡ 0) ↔ NoWalk g q
-  none-exactly {r = r} p z = elim (none-or-given p z) [ inl k ↦ (λ e. k .1, λ f. ap (λ (x : Answer). x .length) (k .0)) | inr k ↦ (λ e. absurd (omega (arith, e, k .1)), λ f. absurd (f (r .cost) (k .2))) ]
+  none-exactly {r = r} p z = go (none-or-given p z)
+    where
+      go : ((r ≡ without 0) × NoWalk g q) ⊎ Found g q r → (r .length ≡ 0) ↔ NoWalk g q
+      go (inl k) = (λ e. k .1, λ f. ap (λ (x : Answer). x .length) (k .0))
+      go (inr k) = (λ e. absurd (omega (arith, e, k .1)), λ f. absurd (f (r .cost) (k .2)))
 
   -- and cost none exactly without one
   pub cost-none-exactly : {e : Buffers} {r : Answer} → Promise g q b e r → r .number ≡ 0 → (r .cost ≡ noneI64) ↔ NoWalk g q
-  cost-none-exactly {r = r} p z = elim (none-or-given p z) [ inl k ↦ (λ e. k .1, λ f. ap (λ (x : Answer). x .cost) (k .0)) | inr k ↦ (λ e. absurd (omega (arith, zed, e, k .0)), λ f. absurd (f (r .cost) (k .2))) ]
+  cost-none-exactly {r = r} p z = go (none-or-given p z)
+    where
+      go : ((r ≡ without 0) × NoWalk g q) ⊎ Found g q r → (r .cost ≡ noneI64) ↔ NoWalk g q
+      go (inl k) = (λ e. k .1, λ f. ap (λ (x : Answer). x .cost) (k .0))
+      go (inr k) = (λ e. absurd (omega (arith, zed, e, k .0)), λ f. absurd (f (r .cost) (k .2)))
 
 -- ---- from the source to itself
 -- at the start the source alone is pending

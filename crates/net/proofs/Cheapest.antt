@@ -8,7 +8,7 @@ use Prim.Native.Nat.{ℕ}
 use lib.IntN.{ℤ}
 use Rattle.whole.proofs.Cases.{clash}
 use Rattle.table.specs.Links.{Link, joins, Arc}
-use Rattle.walks.specs.Chain.{Path, CheapestArc, Cheapest}
+use Rattle.walks.specs.Chain.{Path, Cheapest}
 use Rattle.walks.proofs.Cheapest.{NoneOrCheapest, HasCheapest, one-more, path-total}
 use Rattle.net.specs.Net.{Net, linksOf, ArcOf}
 

@@ -73,10 +73,14 @@ module _ (key : ℤ → ℕ → ℤ) (target : Option ℕ) (o : ℕ) (Arc : ℕ 
 -- ---- the answer
 module _ (Arc : ℕ → ℕ → ℤ → Type 0) (o : ℕ) where
   -- the indices with a distance, which were counted, are those in reach
-  in-reach : {e : End ℤ} → Counted (dijkstra o) (whole-laws (λ d v. d) none o) (λ d v. refl) (λ d c x. whole-grows d c) Arc e → ((v : ℕ) (d : ℤ) → e .dist v ≡ some d → Walk Arc o v d) → ((v : ℕ) → e .dist v ≡ none → (t : ℤ) → Walk Arc o v t → ⊥)
+  in-reach : {e : End ℤ} → Counted (dijkstra o) (whole-laws (λ d v. d) none o) (λ d v. refl) (λ d c x. whole-grows d c) Arc e
+      → ((v : ℕ) (d : ℤ) → e .dist v ≡ some d → Walk Arc o v d) → ((v : ℕ) → e .dist v ≡ none → (t : ℤ) → Walk Arc o v t → ⊥)
       → (l : List ℕ) × Reachable Arc o l × (e .takes ≡ length l)
-  in-reach {e} k walk gone = (k .those, record { distinct = k .distinct; reached = λ v i. let x = k .have v i in (x .0, walk v (x .0) (x .1)); all = λ v t w. listed v t w (e .dist v) refl }, k .many)
+  in-reach {e} k walk gone = (k .those, record { distinct = k .distinct; reached = reached; all = λ v t w. listed v t w (e .dist v) refl }, k .many)
     where
+      reached : (v : ℕ) → In v (k .those) → (t : ℤ) × Walk Arc o v t
+      reached v i = let x = k .have v i in (x .0, walk v (x .0) (x .1))
+
       listed : (v : ℕ) (t : ℤ) → Walk Arc o v t → (x : Option ℤ) → e .dist v ≡ x → In v (k .those)
       listed v t w none q = absurd (gone v q t w)
       listed v t w (some d) q = k .all v d q

@@ -3,3 +3,4 @@ pub mod Puts
 pub mod Good
 pub mod Numbers
 pub mod Settles
+pub mod Sample

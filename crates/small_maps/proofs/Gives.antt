@@ -55,7 +55,8 @@ module _ (g : Net ℤ) (s : ℕ) (inside : insideNet g ≡ true) (source : has g
 
   -- ---- bellman_ford
   -- 7: every distance none
-  pub bellman-ford-seven : NegativeFrom (ArcOf g) s → (b e : BellmanFord.Buffers) (no : ℕ) → BellmanFord.enough g b ≡ true → BellmanFord.Promise g s b e no → (no ≡ 7) × (e .dist ≡ filled (g .bound) noneI64 (b .dist))
+  pub bellman-ford-seven : NegativeFrom (ArcOf g) s
+      → (b e : BellmanFord.Buffers) (no : ℕ) → BellmanFord.enough g b ≡ true → BellmanFord.Promise g s b e no → (no ≡ 7) × (e .dist ≡ filled (g .bound) noneI64 (b .dist))
   bellman-ford-seven w b e k long p = let r = BellmanFordLaws.promise-one p (BellmanFord.negative refl long inside source w refl) in (r .0, ap (λ (x : BellmanFord.Buffers). x .dist) (r .1))
 
   -- 0: the entries
