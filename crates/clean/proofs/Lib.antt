@@ -1,3 +1,4 @@
 pub mod Filled
 pub mod Filling
 pub mod Better
+pub mod Payload

@@ -34,7 +34,7 @@ module _ {m n : ℕ} {d : Bool} {xs ys : List ℕ} {cs : List ℤ} {s : ℕ} {b 
   list-room = net-room g (ripe .rows)
 
   module _ {nb : Lists ℤ} (r : Rows (arcsInts d n xs ys cs) m (b .scratch .rows) nb) where
-    -- a cost that an i32 holds is cheap
+    -- a cost in -2^31 ..= 2^31 is cheap
     pub cheap : Costs32 (Arc d (links n xs ys cs)) → Cheap m nb
     cheap f = record {
       rows = net-sound g (ripe .inside) r (ready .0 .indices) list-room;

@@ -42,7 +42,7 @@ pub record Filled (Arc : ℕ → ℕ → ℤ → Type 0) (L : List ℕ) (A : ℕ
   pub low : (i j v : ℕ) (c : ℤ) → i < length L → j < length L → getD L j 0 ≡ v → Arc (getD L i 0) v c → A i j ≤ℤ c
   pub real : (i j : ℕ) → i < length L → j < length L → (A i j ≡ pos (2 ^ 50)) ⊎ Walk Arc (getD L i 0) (getD L j 0) (A i j)
 
--- a map with at most 1024 rows L, with arcs between rows alone, and with costs that an i32 holds
+-- a map with at most 1024 rows L, with arcs between rows alone, and with costs in -2^31 ..= 2^31
 pub record Rowed (Arc : ℕ → ℕ → ℤ → Type 0) (L : List ℕ) : Type 0 where
   pub few : length L ≤ 1024
   pub leave : (u v : ℕ) (c : ℤ) → Arc u v c → (i : ℕ) × (i < length L) × (getD L i 0 ≡ u)

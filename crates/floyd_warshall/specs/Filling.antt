@@ -53,7 +53,7 @@ abbrev pub poured : Bool → ℕ → List ℕ → List (Link ℤ) → List ℤ �
 poured d p r [] l = l
 poured d p r (x ∷ xs) l = poured d p r xs (linked d p l (getD r (x .a) 0) (getD r (x .b) 0) (x .cost))
 
--- the first n costs are such that an i32 holds
+-- the first n costs are in -2^31 ..= 2^31, as every i32 is
 abbrev pub Costs : List ℤ → ℕ → Type 0
 Costs cs n = (x : ℕ) → x < n → Cost32 (getD cs x (pos 0))
 

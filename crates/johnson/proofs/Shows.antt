@@ -18,7 +18,8 @@ use Rattle.whole.proofs.Cases.{clash}
 use Rattle.clean.specs.None.{noneI64}
 use Rattle.table.specs.Links.{present}
 use Rattle.walks.specs.Pigeon.{In}
-use Rattle.walks.specs.Walk.{Walk, stay, step, Total}
+use Rattle.walks.specs.Walk.{Total}
+use Rattle.walks.proofs.Walk.{walk-up}
 use Rattle.walks.proofs.Cheap.{least-within}
 use Rattle.walks.specs.Costs.{Costs}
 use Rattle.net.specs.Net.{rising}
@@ -95,13 +96,6 @@ module _ {m at s : ℕ} {marks : List ℕ} {h ds before : List ℤ} where
   show-last {after} {v} r k = let e : v ≡ m = omega (arith, r .within) in subst (λ (i : ℕ). RowShown m at s i marks h ds before after) e (r .row)
 
 -- ---- what is found is not far from 0
-walk-up : {Arc : ℕ → ℕ → ℤ → Type 0} → ((u v : ℕ) (c : ℤ) → Arc u v c → pos 0 ≤ℤ c) → {u v : ℕ} {t : ℤ} → Walk Arc u v t → pos 0 ≤ℤ t
-walk-up f {t} (stay e) = omega (arith, zed)
-walk-up f {t = r} (step {u} {v} {c} {t} a w e) =
-    let p : pos 0 ≤ℤ c = f u v c a in
-    let q : pos 0 ≤ℤ t = walk-up f w in
-    omega (arith, zed, sum c t)
-
 pub total-moderate : {m : ℕ} {nb : Lists ℤ} → Even m nb → (s v : ℕ) (d : ℤ) → s < m → Total (RowArc m nb) s v d → Moderate d
 total-moderate {m} {nb} w s v d l (inl q) t =
     let k = least-within all (2 ^ 42) (λ x y c a. inside y (w .rows .inside x y c a)) (inside s l) costs (λ x a z r o. walk-up (w .up) o) q in

@@ -99,7 +99,7 @@ neg (negsuc n) = omega arith
 abbrev pub Within : ℕ → ℤ → Type 0
 Within b z = P z + N z ≤ b
 
--- so a cost does that an i32 holds, with b 2^31
+-- a cost in -2^31 ..= 2^31, as every i32 is
 abbrev pub Cost32 : ℤ → Type 0
 Cost32 c = Within (2 ^ 31) c
 

@@ -9,7 +9,7 @@ use lib.Signed.{ltZ}
 use mir.Syntax.{w64}
 use mir.Val.{SFits, toZ, ofZ}
 use mir.ValLaws.{toZ-ofZ}
-use Rattle.whole.specs.Zed.{_⊕_, P, N, zed, sum}
+use Rattle.whole.specs.Zed.{_⊕_, Within, zed, sum}
 use Rattle.floyd_warshall.specs.Rounds.{lesser, pickZ}
 use Rattle.floyd_warshall.proofs.shorter.Statement.{statement}
 use Rattle.floyd_warshall.proofs.shorter.Tie as tie
@@ -18,7 +18,7 @@ use Rattle.floyd_warshall.proofs.shorter.Tie as tie
 machine-sum : (a b : ℤ) → SFits w64 a → SFits w64 b → toZ w64 (ofZ w64 a) ⊕ toZ w64 (ofZ w64 b) ≡ a ⊕ b
 machine-sum a b f g = λ i. toZ-ofZ w64 a f i ⊕ toZ-ofZ w64 b g i
 
-fits-sum : (a b : ℤ) → P a + N a ≤ 2 ^ 60 → P b + N b ≤ 2 ^ 60 → SFits w64 (a ⊕ b)
+fits-sum : (a b : ℤ) → Within (2 ^ 60) a → Within (2 ^ 60) b → SFits w64 (a ⊕ b)
 fits-sum a b h k = omega (arith, zed, sum a b)
 
 add-s : tie.Need-add-s
