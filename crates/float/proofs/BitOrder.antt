@@ -1,4 +1,7 @@
 -- The order of distances is that of their bits as numbers.
+-- A value's bits are a field that tells how many digits were dropped, and the leading digits. Of two values the one with more digits dropped has the larger field,
+-- which outweighs all digits; with as many dropped, the digits decide. So the bits grow with the rank (`bits-mono`), and a comparison of distances is one of
+-- patterns. What a search asks of the order of its keys is then what numbers have.
 -- Assumes nothing.
 use mathlib.Core.Path.{_≡_, refl, sym, ap, ap₂, _∙_, subst}
 use mathlib.Core.Logic.{_⊎_, inl, inr}

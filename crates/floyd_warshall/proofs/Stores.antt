@@ -1,4 +1,6 @@
--- Loops that store one value after another.
+-- Loops that store one value after another: the diagonal set to zero, entries shown, a block lowered, links poured.
+-- Of each a record says what holds after so many stores. None of it is there before the first; one more store goes one place further and leaves the rest as it was;
+-- after the last the whole is done. A store keeps the length of its list, so that every place stays inside.
 -- Assumes nothing.
 use mathlib.Core.Path.{_≡_, refl, sym, ap, _∙_, subst}
 use mathlib.Core.Bool.{Bool}

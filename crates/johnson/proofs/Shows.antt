@@ -13,7 +13,7 @@ use lib.IntN.{ℤ, pos, negsuc}
 use lib.Signed.{ltZ, _≤ℤ_, _<ℤ_}
 use lib.ListN.{length, getD, set, length-set}
 use lib.Seq.{getD-set-same, getD-set-other}
-use Rattle.whole.specs.Zed.{_⊕_, zed, sum, Within}
+use Rattle.whole.specs.Zed.{_⊕_, zed, Within}
 use Rattle.whole.proofs.Cases.{clash}
 use Rattle.clean.specs.None.{noneI64}
 use Rattle.table.specs.Links.{present}

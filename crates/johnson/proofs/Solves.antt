@@ -1,4 +1,7 @@
 -- From the shifted list and the rows to the map's matrix, on the part used of each slice.
+-- A total over the shifted list, with both potentials taken off again, is a total over the map's arcs, so an entry that is found and shifted back is the least total
+-- there; it is in its range, since a least total has fewer arcs than the map has indices. With potentials no shifted arc is below zero, so no closed walk of the map
+-- is. Lent slices may be longer than the part used: what holds of the first entries is carried over to them.
 -- Assumes nothing.
 use mathlib.Core.Path.{_≡_, refl, sym, ap, _∙_, subst}
 use mathlib.Core.Bool.{Bool, true, false}

@@ -1,4 +1,6 @@
--- `floyd_warshall::lower_block` meets its contract. The invariant: the entries passed are lowered.
+-- `floyd_warshall::lower_block` meets its contract. The invariant: the entries passed are lowered (`Lowering` in proofs/Stores.antt).
+-- The two places of a turn lie inside, since the block lies inside and its list keeps its length. Their sum fits, since what a block asks for bounds both numbers. So
+-- one more store makes one more entry of the block, and after n of them it is the block that the contract names.
 -- Assumes nothing.
 use mathlib.Core.Path.{_≡_, sym, ap, _∙_, subst}
 use Prim.Native.Nat.{_+_, _-_, _≤_, _<_}
