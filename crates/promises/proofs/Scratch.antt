@@ -2,7 +2,7 @@
 -- `QUESTION-scratch`: for every map within the limits, and outputs (and a heuristic) of the lengths used, there are scratch slices, in the order in which they are lent,
 -- with which nothing is too short, and whose lengths sum to no more. Each is just as long as `enough` asks (docs/SCRATCH.md).
 -- Assumes nothing.
-use mathlib.Core.Path.{_≡_, refl}
+use mathlib.Core.Path.{_≡_}
 use mathlib.Core.Bool.{true}
 use mathlib.Core.List.{List}
 use Prim.Native.Nat.{ℕ, _+_, _*_, _≤_}
@@ -10,8 +10,7 @@ use native.Mathlib.Omega.{arith}
 use borrow.Author.Tests.{le-leb}
 use lib.Dec.{leb}
 use lib.IntN.{ℤ, pos}
-use lib.ListN.{length, take, replicate, length-replicate}
-use lib.Seq.{length-take-le}
+use lib.ListN.{length, replicate, length-replicate}
 use Rattle.table.specs.Lent.{FloatCost}
 use Rattle.net.specs.Net.{Net, wholeNet, sizeOf, width}
 use Rattle.rows.specs.Scratch.{hasRoom}
@@ -134,18 +133,18 @@ hops-scratch g whole nodes matrix n d = (
   omega (arith, zeros-have (g .bound + 1), zeros-have (sizeOf g), zeros-have (g .bound)),
 )
 
--- both f64 searches: of the buffers lent, the outputs stay
-pub dijkstra-path-scratch : (g : Net FloatCost) → wholeNet g ≡ true → (lent : search.Buffers) → g .bound ≤ length (lent .dist) → g .bound ≤ length (lent .preds)
-    → (b : search.Buffers) × (b .dist ≡ lent .dist) × (b .preds ≡ lent .preds) × (search.enough g b ≡ true)
-    × (length (b .offsets) + length (b .heads) + length (b .weights) + length (b .heap) + length (b .places) + length (b .keys) ≤ 8 * (g .bound + 1) + 4 * sizeOf g)
+-- both f64 searches
+pub dijkstra-path-scratch : (g : Net FloatCost) → wholeNet g ≡ true → (dist preds : List ℕ) → g .bound ≤ length dist → g .bound ≤ length preds
+    → (o : List ℕ) × (h : List ℕ) × (w : List ℕ) × (q : List ℕ) × (i : List ℕ) × (k : List ℕ) × (search.enough g (search.buffersOf dist preds o h w q i k) ≡ true)
+    × (length o + length h + length w + length q + length i + length k ≤ 8 * (g .bound + 1) + 4 * sizeOf g)
 unfolding search.longEnough
-dijkstra-path-scratch g whole lent d p =
-    let m = g .bound in
-    let a = sizeOf g in
-    let k = length-take-le m (lent .dist) d in (
-      record { dist = lent .dist; preds = lent .preds; offsets = zeros (m + 1); heads = zeros a; weights = zeros a; heap = zeros m; places = zeros m; keys = take m (lent .dist) },
-      refl,
-      refl,
-      rw (whole, le-leb m (length (lent .dist)) d, le-leb m (length (lent .preds)) p, zeros-do (m + 1), zeros-do a, zeros-do m, le-leb m (length (take m (lent .dist))) (omega (arith, k))),
-      omega (arith, zeros-have (m + 1), zeros-have a, zeros-have m, k),
-    )
+dijkstra-path-scratch g whole dist preds d p = (
+  zeros (g .bound + 1),
+  zeros (sizeOf g),
+  zeros (sizeOf g),
+  zeros (g .bound),
+  zeros (g .bound),
+  zeros (g .bound),
+  rw (whole, le-leb (g .bound) (length dist) d, le-leb (g .bound) (length preds) p, zeros-do (g .bound + 1), zeros-do (sizeOf g), zeros-do (g .bound)),
+  omega (arith, zeros-have (g .bound + 1), zeros-have (sizeOf g), zeros-have (g .bound)),
+)
