@@ -26,7 +26,7 @@ fn limit(bits: u64) -> Cutoff {
     if float::bad_cost(bits) {
         return odd_limit(bits);
     }
-    Cutoff::At(float::plus(0.0, bits))
+    Cutoff::At(f64::from_bits(bits))
 }
 
 // The cutoff of a case: 0 for none, else 1 and the bits.

@@ -1,8 +1,8 @@
 -- A map that was read to its ask is one that every engine takes: it has no more than 64 indices and 512 links, and its links lie within it. For it begins without links, and
--- a put that is not refused leaves a table that neither 1 nor 2 refuses. So an engine never gives 1 or 2 on it.
+-- a put leaves a table that neither 1 nor 2 refuses where it was lent one. So an engine never gives 1 or 2 on it.
 -- Assumes nothing.
 use mathlib.Core.Path.{_≡_, refl, sym, ap, _∙_, subst}
-use mathlib.Core.Bool.{Bool, true, false, _&&_}
+use mathlib.Core.Bool.{Bool, true, false, cond, _&&_}
 use mathlib.Core.List.{List}
 use Prim.Native.Nat.{ℕ, zero, suc, _+_, _≤_, _<_}
 use native.Mathlib.Omega.{arith}
@@ -14,7 +14,7 @@ use Rattle.clean.proofs.Filled.{filled-length}
 use Rattle.table.specs.Links.{Link, linkOf, tableNo}
 use Rattle.table.specs.Lent.{roomInts, roomFloats, intsNo, floatsNo, rawCost, intsNow, floatsNow}
 use Rattle.table.specs.Feeds.{Kind, ints, floats}
-use Rattle.table.proofs.Laws.{room-ints, room-floats, no-whole, whole-back}
+use Rattle.table.proofs.Laws.{room-ints, room-floats, no-whole, whole, whole-back, whole-of-no, all-of-no}
 use Rattle.table.proofs.Tables.{Table}
 use Rattle.table.proofs.Puts.{put-step}
 use Rattle.table.proofs.Slices.{tableOf, Follows, follows-ints, follows-floats}
@@ -32,15 +32,16 @@ use Rattle.sheet.specs.Sheet.{readFile}
 empty-good : {C : Type 0} (m room : ℕ) (marks : List ℕ) (ls : List (Link C)) → m ≤ 1024 → m ≤ length marks → tableNo m 0 room marks ls ≡ 0
 empty-good m room marks ls a b = no-whole m 0 room marks ls (whole-back (record { indices = a; marked = b; few = omega arith }))
 
--- a put that is not refused keeps it so
+-- a put keeps it so
 put-good : {C R S : Type 0} (k : Kind C R S) → Follows k → (d : Bool) (m : ℕ) (marks : List ℕ) (r : R) (s : S)
-    → tableNo m (k .count s) (k .room s) marks (k .places s) ≡ 0 → k .number (k .put d m marks r s) ≡ 0 → let t = k .put d m marks r s in tableNo m (k .count t) (k .room t) marks (k .places t) ≡ 0
-put-good {C} k l d m marks r s g z =
+    → tableNo m (k .count s) (k .room s) marks (k .places s) ≡ 0 → let t = k .put d m marks r s in tableNo m (k .count t) (k .room t) marks (k .places t) ≡ 0
+put-good {C} k l d m marks r s g =
     let t = k .put d m marks r s in
-    let e = l .shows d m marks r s in
-    let p = put-step d m (k .room s) marks (k .seen r) (tableOf k s) (record { good = g; roomy = l .roomy s }) (λ y. other 0 8 z (ap (λ (x : Table C). x .no) e ∙ y) (λ w. omega arith)) in
+    let w = whole m (k .count s) (k .room s) marks (whole-of-no m (k .count s) (k .room s) marks (k .places s) g) in
+    let p = put-step d m (k .room s) marks (k .seen r) (tableOf k s) (record { few = w .few; inside = all-of-no m (k .count s) (k .room s) marks (k .places s) g; roomy = l .roomy s }) in
     ap (λ (n : ℕ). tableNo m (k .count t) n marks (k .places t)) (l .keeps d m marks r s)
-    ∙ subst (λ (x : Table C). tableNo m (x .count) (k .room s) marks (x .places) ≡ 0) (sym e) (p .sound .good)
+    ∙ subst (λ (x : Table C). tableNo m (x .count) (k .room s) marks (x .places) ≡ 0) (sym (l .shows d m marks r s))
+    (no-whole m _ (k .room s) marks _ (whole-back (record { indices = w .indices; marked = w .marked; few = p .sound .few })) ∙ ap (λ (b : Bool). cond b 0 2) (p .sound .inside))
 
 -- ---- what is read
 module _ (s : State) where
@@ -108,7 +109,7 @@ module _ (len : ℕ) (s : State) (g : Good s) (few : length (s .marks) ≤ 1024)
       let put = ints .put (s .walk .directed) (s .walk .bound) (s .marks) (linkOf a b c) lent in
       by-test (λ (w : Walk). Fine (stateOf w (s .marks) (put .from) (put .to) (put .costs) (s .bits) (s .opens))) (eqb (put .no) 0) _ _
       (λ q _. record {
-        ints = λ _. (put-good ints follows-ints (s .walk .directed) (s .walk .bound) (s .marks) (linkOf a b c) lent (g .ints n .0) (eqb-true (put .no) 0 q), omega (arith, g .ints n .1, follows-ints .keeps (s .walk .directed) (s .walk .bound) (s .marks) (linkOf a b c) lent));
+        ints = λ _. (put-good ints follows-ints (s .walk .directed) (s .walk .bound) (s .marks) (linkOf a b c) lent (g .ints n .0), omega (arith, g .ints n .1, follows-ints .keeps (s .walk .directed) (s .walk .bound) (s .marks) (linkOf a b c) lent));
         floats = λ t. absurd (clash t n);
         early = λ z. absurd (omega arith);
       })
@@ -122,7 +123,7 @@ module _ (len : ℕ) (s : State) (g : Good s) (few : length (s .marks) ≤ 1024)
       by-test (λ (w : Walk). Fine (stateOf w (s .marks) (put .from) (put .to) (s .costs) (put .bits) (put .opens))) (eqb (put .no) 0) _ _
       (λ q _. record {
         ints = λ t. absurd (clash n t);
-        floats = λ _. (put-good floats follows-floats (s .walk .directed) (s .walk .bound) (s .marks) (linkOf a b (rawCost x o)) lent (g .floats n .0) (eqb-true (put .no) 0 q), omega (arith, g .floats n .1, follows-floats .keeps (s .walk .directed) (s .walk .bound) (s .marks) (linkOf a b (rawCost x o)) lent));
+        floats = λ _. (put-good floats follows-floats (s .walk .directed) (s .walk .bound) (s .marks) (linkOf a b (rawCost x o)) lent (g .floats n .0), omega (arith, g .floats n .1, follows-floats .keeps (s .walk .directed) (s .walk .bound) (s .marks) (linkOf a b (rawCost x o)) lent));
         early = λ z. absurd (omega arith);
       })
       (λ _ f. absurd (f refl)))
