@@ -103,10 +103,6 @@ module _ {g g′ : Net ℤ} (same : SameNet g g′) where
   promise-arcs {s} {b} (done n p i h w d q) =
       done n (sym (same-enough b) ∙ p) (sym (same-inside same) ∙ i) (sym (same .has s) ∙ h) (noneg-over (arc-over same) (arc-back same) w) (entries-over same d) (q ∙ same-clear b)
 
-  -- so two calls on such maps, with the same buffers and the same source, answer the same and leave the same
-  pub same-answers : {s : ℕ} {b e e′ : Buffers} {no no′ : ℕ} → Promise g s b e no → Promise g′ s b e′ no′ → (no ≡ no′) × (e ≡ e′)
-  same-answers p q = promise-one (promise-arcs p) q
-
 -- ---- undirected: a link below zero in reach is a closed walk below zero, there and back
 pub undirected-negative : (g : Net ℤ) (s u v : ℕ) (t c : ℤ) → g .directed ≡ false → Walk (ArcOf g) s u t → ArcOf g u v c → c <ℤ pos 0 → NegativeFrom (ArcOf g) s
 undirected-negative g s u v t c e w a h = record { x = u; a = t; t = c ⊕ c; reach = w; loop = join (arc a) (arc (arc-turned g e u v c a)) refl; below = omega (arith, zed, sum c c) }

@@ -110,10 +110,6 @@ module _ {g g′ : Net ℤ} (same : SameNet g g′) where
   promise-arcs {s} {b} (done n p i h w d q) =
       done n (sym (same-enough b) ∙ p) (sym (same-inside same) ∙ i) (sym (same .has s) ∙ h) (λ x. w (bad-over (arc-back same) x)) (entries-over same d) (q ∙ same-clear b)
 
-  -- so two calls on such maps, with the same buffers and the same source, answer the same and leave the same
-  pub same-answers : {s : ℕ} {b e e′ : Buffers} {no no′ : ℕ} → Promise g s b e no → Promise g′ s b e′ no′ → (no ≡ no′) × (e ≡ e′)
-  same-answers p q = promise-one (promise-arcs p) q
-
 -- ---- undirected: a link below zero with either end in reach refuses
 pub undirected-bad : (g : Net ℤ) (s u v : ℕ) (t c : ℤ) → g .directed ≡ false → ArcOf g u v c → c <ℤ pos 0 → Walk (ArcOf g) s u t ⊎ Walk (ArcOf g) s v t → BadInReach (ArcOf g) s
 undirected-bad g s u v t c e a h (inl w) = record { u = u; t = t; v = v; c = c; reach = w; arc-is = a; below = h }

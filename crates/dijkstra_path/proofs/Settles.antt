@@ -123,10 +123,6 @@ module _ {g g′ : Net FloatCost} (same : SameNet g g′) where
   promise-arcs {s} {k} {b} {e} (done n p i h x r z a q) =
       done n (sym (same-enough b) ∙ p) (sym (same-inside same) ∙ i) (sym (same .has s) ∙ h) x (ends-over r) z (subst (λ (m : ℕ). Answers m x b e) (same .bound) a) (q ∙ same-left b (e .dist) (e .preds))
 
-  -- so two calls on such maps, with the same buffers, source and cutoff, answer the same and leave the same
-  pub same-answers : {s : ℕ} {k : Cutoff} {b e e′ : Buffers} {no no′ : ℕ} → Promise g s k b e no → Promise g′ s k b e′ no′ → (no ≡ no′) × (e ≡ e′)
-  same-answers p q = promise-one (promise-arcs p) q
-
 -- ---- cutoffs that cut the same distances
 module _ (k k′ : Cutoff) (alike : (x : ℕ) → Dist64 x → past k x ≡ past k′ x) where
   cut-over : {g : Net FloatCost} {s : ℕ} {x : End ℕ} → EndsIn g s k x → EndsIn g s k′ x

@@ -25,7 +25,3 @@ module _ {g g′ : Net ℤ} (same : SameNet g g′) where
   -- the same net, the same promise
   pub promise-arcs : {m m′ : List ℤ} {r r′ : List ℕ} {x : ℕ} → Promise g m r m′ r′ x → Promise g′ m r m′ r′ x
   promise-arcs {m} {r} p = matrix.promise-arcs same (same-enough m r) (ap (λ (n : ℕ). filled n 0 r) (same .bound)) p
-
-  -- so two calls on such maps, with the same buffers, answer the same and leave the same
-  pub same-answers : {m m′ m″ : List ℤ} {r r′ r″ : List ℕ} {x y : ℕ} → Promise g m r m′ r′ x → Promise g′ m r m″ r″ y → (x ≡ y) × (m′ ≡ m″) × (r′ ≡ r″)
-  same-answers p q = promise-one (promise-arcs p) q

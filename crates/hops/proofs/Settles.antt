@@ -219,6 +219,3 @@ module _ {C : Type 0} {g g′ : Net C} (s : SameNet g g′) where
 
   pub promise-arcs : {b e : Buffers} {no p : ℕ} → Promise g b e no p → Promise g′ b e no p
   promise-arcs a = promise-ends ends-of (s .whole) a
-
-  pub same-answers : {b e e′ : Buffers} {no no′ p p′ : ℕ} → Promise g b e no p → Promise g′ b e′ no′ p′ → (no ≡ no′) × (p ≡ p′) × (e ≡ e′)
-  same-answers a c = answers-ends ends-of (s .whole) a c
