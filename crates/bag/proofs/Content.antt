@@ -1,7 +1,8 @@
+-- The content of a bag: what stores to places and keys do to it, and how many it holds.
 -- Places and keys stand for a list of pairs that may be missing: an index is in the bag where its place is not 0, with its key. So a store to a place, with one to
 -- its key, changes the content at that index alone; the value of a place that is not 0 does not matter; and the number held changes by one just where a place
 -- becomes 0 or stops being 0. All of it goes by induction over the places.
--- The content of a bag: what stores to places and keys do to it, and how many it holds. Assumes nothing.
+-- Assumes nothing.
 use mathlib.Core.Path.{_≡_, refl, sym, ap, ap₂, _∙_}
 use mathlib.Core.List.{List, [], _∷_}
 use mathlib.Core.Option.{Option, none, some, Option·none-ne-some}

@@ -1,7 +1,7 @@
+-- What a push and a take make of a bag, once for every kind of key: the content, how many there are, and the words.
 -- A take clears the word of the index that it gives: the others keep word and key, so the rest is a bag with one less, and its content is the one before without
 -- that pair. A push stores v's word and key: the others keep theirs, v's word grows (a key that is lowered has a larger word), and there is one more exactly if v
--- was out.
--- What a push and a take make of a bag, once for every kind of key: the content, how many there are, and the words.
+-- was out. Where words tell the order of pairs, the first index with the largest word is pending, and no pair stands before its pair.
 -- Assumes nothing.
 use mathlib.Core.Path.{_≡_, refl, sym, ap, subst, _∙_}
 use mathlib.Core.Bool.{Bool, true, false}

@@ -1,7 +1,7 @@
 -- The promise of `dijkstra` settles the answer and each buffer, goes by the arcs alone, and gives each number exactly when its condition holds.
 -- A case of the promise says which tests passed before it, so two answers are in one case, or one is 6 and the other 0: but an arc below zero leaves an index in
 -- reach or none does. In one case the buffers are equal, since least totals are. Each number's equivalence is read off the cases. Maps with the same arcs pass the
--- same tests and have the same walks. Without an arc below zero in reach no total is below zero, arc by arc, so none is never a total.
+-- same tests and have the same walks.
 -- Assumes nothing.
 use mathlib.Core.Path.{_≡_, refl, sym, ap, _∙_}
 use mathlib.Core.Bool.{true, false}

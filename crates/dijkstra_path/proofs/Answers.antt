@@ -1,7 +1,7 @@
+-- From what the parts gave to the promise, over plain lists.
 -- Each part changes nothing past the part used of a buffer. So wiping and blanking at the end leave what they would have left of the buffers as they were lent, as
 -- the promise says. The search ran over the neighbour list, whose arcs are the open arcs of the map, with the cutoff as a number, which cuts the same totals: so its
 -- end is the end of the pending bag that the promise names. A number that is not 0 is 6, since a search ends in no other.
--- From what the parts gave to the promise, over plain lists.
 -- Assumes nothing.
 use mathlib.Core.Path.{_≡_, refl, sym, ap, _∙_}
 use mathlib.Core.Bool.{Bool, true}

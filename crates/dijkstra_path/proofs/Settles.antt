@@ -1,6 +1,6 @@
+-- The promise settles the answer and each buffer, goes by the open arcs alone, and by what the cutoff cuts.
 -- The pending bag has one end, which shows in one way in the lent slices; the rest is by the cases of the promise, each of which says which tests passed before it.
 -- Maps with the same open arcs, and cutoffs that cut the same distances, have the same end: so NaN and +infinity answer as no cutoff, and -0.0 as 0.0.
--- The promise settles the answer and each buffer, goes by the open arcs alone, and by what the cutoff cuts.
 -- Assumes nothing.
 use mathlib.Core.Path.{_≡_, sym, ap, _∙_, subst}
 use mathlib.Core.Bool.{true, false}

@@ -1,7 +1,7 @@
--- The order of such values is shown by their signs: two of one sign are ordered as their sizes, or the other way round below zero, and a size is a value with a
+-- The order of all f64 values but NaN, a cutoff's among them: it is that of the integers `srank`, where -0.0 and 0.0 are both 0.
+-- It is shown by their signs: two of one sign are ordered as their sizes, or the other way round below zero, and a size is a value with a
 -- clear sign, whose order is that of the ranks (Dist). So cutting is monotone: what is above a cut value is cut, and a cutoff that is not above another cuts all
 -- that the other cuts.
--- The order of all f64 values but NaN, a cutoff's among them: it is that of the integers `srank`, where -0.0 and 0.0 are both 0.
 -- Assumes nothing.
 use mathlib.Core.Path.{_≡_, refl, sym, ap, _∙_, subst}
 use Prim.Native.Nat.{ℕ, zero, suc, _+_, _*_, _^_, _≤_, _<_, zero-le}

@@ -1,7 +1,7 @@
+-- What a store does to what the lists say, and what the lists say before a search.
 -- Distances, predecessors and the content of the bag, side by side, say for each index what the pending bag has of it: nothing, or a distance, a predecessor and
 -- whether it is pending. A store at v changes the three lists at v alone, so it changes what they say at v alone. Blank lists and an empty bag say nothing of any
 -- index.
--- What a store does to what the lists say, and what the lists say before a search.
 -- Assumes nothing.
 use mathlib.Core.Path.{_≡_, refl, sym, ap, _∙_, subst, fun-ext}
 use mathlib.Core.Bool.{Bool, true}

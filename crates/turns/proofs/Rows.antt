@@ -1,6 +1,6 @@
--- A row, arc by arc. The test of the code is the bag's, so what one arc leaves in the lists is what `lookAt` makes of what they said before; a better total has no
--- greater key than a pending one, so it may be pushed. The arcs looked at so far, in the order of the list, come to the turn that has no order (pending, Row).
 -- A row, arc by arc: one arc is `lookAt` of the pending bag, and a row looked through is one turn.
+-- The test of the code is the bag's, so what one arc leaves in the lists is what `lookAt` makes of what they said before; a better total has no
+-- greater key than a pending one, so it may be pushed. The arcs looked at so far, in the order of the list, come to the turn that has no order (pending, Row).
 -- Assumes nothing.
 use mathlib.Core.Path.{_≡_, refl, sym, ap, _∙_, subst}
 use mathlib.Core.Bool.{Bool, true, false}

@@ -1,6 +1,6 @@
+-- `dijkstra_path::dijkstra_path_impl` meets its contract.
 -- A refusal returns before the first write. Past it the list of open arcs is made, the search run, the scratch wiped, and after a bad cost the distances and
 -- predecessors are blanked: the two answers are laws of proofs/Answers.antt, at what the calls gave.
--- `dijkstra_path::dijkstra_path_impl` meets its contract.
 -- Assumes nothing.
 use borrow.Author.Needs.{needs}
 use Rattle.dijkstra_path.proofs.dijkstra_path_impl.Statement.{statement}

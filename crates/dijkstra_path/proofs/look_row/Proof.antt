@@ -1,6 +1,6 @@
+-- `dijkstra_path::look_row` meets its contract.
 -- The loop's invariant is the record `Row` of turns: the arcs before place i are looked at, and what the lists say is what the pending bag makes of them. A bad cost
 -- stops the row; any other arc is one look more; at the end of the row the turn is done.
--- `dijkstra_path::look_row` meets its contract.
 -- Assumes nothing.
 use borrow.Author.Needs.{needs}
 use mathlib.Core.Path.{_≡_, refl, sym, _∙_}

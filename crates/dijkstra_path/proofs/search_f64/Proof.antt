@@ -1,6 +1,6 @@
+-- `dijkstra_path::search_f64` meets its contract.
 -- The loop's invariant says that whatever the pending bag ends in from here it ends in from its start. A take gives the least pair, its row is one turn, and each
 -- index is taken at most once, so the loop ends.
--- `dijkstra_path::search_f64` meets its contract.
 -- Assumes nothing.
 use mathlib.Core.Path.{refl, sym, subst, _∙_}
 use Prim.Native.Nat.{ℕ, _-_, _<_}

@@ -1,7 +1,8 @@
+-- `bag::peaks::clear` meets its contract.
 -- Clearing a word can lower the largest of its block of 8, and so on up. The three entries above the word are each made anew from the eight below it, lowest first,
 -- so that each is made of entries that are right already; no other block has the word in it (`peaks-cleared`). Every place lies within its list, for there are at
 -- most 1,024 words.
--- `bag::peaks::clear` meets its contract. Assumes nothing.
+-- Assumes nothing.
 use mathlib.Core.Path.{refl}
 use native.Mathlib.Omega.{arith}
 use Prim.Native.Nat.{_+_, _/_}
