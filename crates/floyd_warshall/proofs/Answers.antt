@@ -28,7 +28,7 @@ use Rattle.matrix.specs.Matrix.{square, negative, done}
 use Rattle.matrix.proofs.Matrix.{place-in, closed-up}
 use Rattle.floyd_warshall.specs.Promise.{Promise}
 use Rattle.floyd_warshall.specs.Rounds.{pickZ, cell, after, anyBelow, Strided, Begun, Refused, Complete, Rounded}
-use Rattle.floyd_warshall.specs.Filling.{refusalNo, Sound, Ranked, Started, Costs, poured, shown, MatrixShown, Solved}
+use Rattle.floyd_warshall.specs.Filling.{refusalNo, Sound, Ranked, Started, Costs32Below, poured, shown, MatrixShown, Solved}
 use Rattle.floyd_warshall.proofs.Turns.{none-below, some-below}
 use Rattle.floyd_warshall.proofs.Totals.{refused, never, near-entry, far-entry}
 use Rattle.floyd_warshall.proofs.Poured.{arc-fits}
@@ -39,7 +39,7 @@ use Rattle.floyd_warshall.proofs.Refusals.{passed}
 diagonal-place : (p i : ℕ) → 0 + i * (p + 1) ≡ i * p + i
 diagonal-place p i = omega arith
 
-module _ (m n : ℕ) (d : Bool) (marks xs ys : List ℕ) (cs : List ℤ) (ranks : List ℕ) (S : Sound (netOf m n d marks xs ys cs)) (R : Ranked (netOf m n d marks xs ys cs) ranks) (F : Costs cs n) where
+module _ (m n : ℕ) (d : Bool) (marks xs ys : List ℕ) (cs : List ℤ) (ranks : List ℕ) (S : Sound (netOf m n d marks xs ys cs)) (R : Ranked (netOf m n d marks xs ys cs) ranks) (F : Costs32Below cs n) where
   abbrev g : Net ℤ
   g = netOf m n d marks xs ys cs
 

@@ -23,7 +23,7 @@ use Rattle.net.proofs.Nodes.{has-below, node-ranked, node-has, present-in, rank
 use Rattle.net.proofs.Bounds.{whole-ints, long-ints, width-small}
 use Rattle.net.proofs.Same.{arc-has}
 use Rattle.floyd_warshall.specs.Rounds.{cell, Begun}
-use Rattle.floyd_warshall.specs.Filling.{Sound, Ranked, Started, Costs, poured}
+use Rattle.floyd_warshall.specs.Filling.{Sound, Ranked, Started, Costs32Below, poured}
 use Rattle.floyd_warshall.proofs.Poured.{ends-present, arc-fits, RowsBelow, ArcIn, poured-size, poured-le, poured-low, poured-new}
 use Rattle.floyd_warshall.proofs.Totals.{Filled, Rowed}
 
@@ -70,7 +70,7 @@ module _ (m n : ℕ) (d : Bool) (marks xs ys : List ℕ) (cs : List ℤ) (ranks 
   pub few : width g ≤ 1024
   few = width-small (whole-ints m n d marks xs ys cs (S .whole))
 
-  module _ (F : Costs cs n) where
+  module _ (F : Costs32Below cs n) where
     pub rowed : Rowed (ArcOf g) (nodesOf g)
     rowed =
         record {

@@ -19,7 +19,7 @@ use Rattle.table.specs.Links.{Link, linkOf, links, present, presentBoth, inside
 use Rattle.table.proofs.Joins.{joined, joins-of}
 use Rattle.walks.specs.Costs.{Costs32}
 use Rattle.floyd_warshall.specs.Rounds.{lesser, cell}
-use Rattle.floyd_warshall.specs.Filling.{lowered, linked, poured, Costs}
+use Rattle.floyd_warshall.specs.Filling.{lowered, linked, poured, Costs32Below}
 use Rattle.floyd_warshall.proofs.Triangle.{lesser-is, lesser-left, lesser-right}
 use Rattle.floyd_warshall.proofs.Cells.{cell-same, cell-row, cell-column}
 
@@ -55,7 +55,7 @@ ends-present m (suc n) zero marks (x ∷ xs) (y ∷ ys) (z ∷ cs) h a b c i = l
 ends-present m (suc n) (suc e) marks (x ∷ xs) (y ∷ ys) (z ∷ cs) h a b c i = ends-present m n e marks xs ys cs (le-of-suc-le-suc h) (le-of-suc-le-suc a) (le-of-suc-le-suc b) (le-of-suc-le-suc c) (and-right (inside m marks (linkOf x y z)) _ i)
 
 -- the cost of an arc is one of the first n
-pub arc-fits : (d : Bool) (n : ℕ) (xs ys : List ℕ) (cs : List ℤ) → Costs cs n → Costs32 (Arc d (links n xs ys cs))
+pub arc-fits : (d : Bool) (n : ℕ) (xs ys : List ℕ) (cs : List ℤ) → Costs32Below cs n → Costs32 (Arc d (links n xs ys cs))
 arc-fits d zero xs ys cs f u v c a = absurd a
 arc-fits d (suc n) [] ys cs f u v c a = absurd a
 arc-fits d (suc n) (x ∷ xs) [] cs f u v c a = absurd a

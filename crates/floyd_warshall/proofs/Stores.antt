@@ -18,7 +18,7 @@ use Rattle.matrix.proofs.Matrix.{place-in}
 use Rattle.floyd_warshall.specs.Rounds.{lesser, cell, lowerAt, block, Block}
 use Rattle.table.specs.Links.{Link, links}
 use Rattle.whole.specs.Zed.{_⊕_, Within, Cost32}
-use Rattle.floyd_warshall.specs.Filling.{Square, Started, shown, MatrixShown, linked, poured, Costs}
+use Rattle.floyd_warshall.specs.Filling.{Square, Started, shown, MatrixShown, linked, poured, Costs32Below}
 use Rattle.floyd_warshall.proofs.Poured.{next-link, no-link}
 use Rattle.floyd_warshall.proofs.Cells.{cell-same, cell-row, cell-column}
 
@@ -102,7 +102,7 @@ module _ {at by : ℕ} {a : ℤ} {n : ℕ} {l₀ : List ℤ} where
 -- the links below e poured
 pub record Pouring (d : Bool) (p : ℕ) (r : List ℕ) (n : ℕ) (xs ys : List ℕ) (cs l₀ : List ℤ) (e : ℕ) (l : List ℤ) : Type 0 where
   pub within : e ≤ n
-  pub fits : Costs cs e
+  pub fits : Costs32Below cs e
   pub size : length l ≡ length l₀
   pub same : poured d p r (drop e (links n xs ys cs)) l ≡ poured d p r (links n xs ys cs) l₀
 
@@ -120,7 +120,7 @@ module _ {d : Bool} {p : ℕ} {r : List ℕ} {n : ℕ} {xs ys : List ℕ} {cs l�
       go x (yes y) i = subst (λ (t : ℕ). Cost32 (getD cs t (pos 0))) (sym y) f
       go x (no y) i = q .fits x (omega (arith, y))
 
-  pub pouring-done : n ≤ e → Costs cs n × (l ≡ poured d p r (links n xs ys cs) l₀)
+  pub pouring-done : n ≤ e → Costs32Below cs n × (l ≡ poured d p r (links n xs ys cs) l₀)
   pouring-done h =
       let y : e ≡ n = omega (arith, q .within) in
-      (subst (Costs cs) y (q .fits), sym (ap (λ (t : List (Link ℤ)). poured d p r t l) (ap (λ (x : ℕ). drop x (links n xs ys cs)) y ∙ no-link n xs ys cs)) ∙ q .same)
+      (subst (Costs32Below cs) y (q .fits), sym (ap (λ (t : List (Link ℤ)). poured d p r t l) (ap (λ (x : ℕ). drop x (links n xs ys cs)) y ∙ no-link n xs ys cs)) ∙ q .same)

@@ -54,8 +54,8 @@ poured d p r [] l = l
 poured d p r (x ∷ xs) l = poured d p r xs (linked d p l (getD r (x .a) 0) (getD r (x .b) 0) (x .cost))
 
 -- the first n costs are in -2^31 ..= 2^31, as every i32 is
-abbrev pub Costs : List ℤ → ℕ → Type 0
-Costs cs n = (x : ℕ) → x < n → Cost32 (getD cs x (pos 0))
+abbrev pub Costs32Below : List ℤ → ℕ → Type 0
+Costs32Below cs n = (x : ℕ) → x < n → Cost32 (getD cs x (pos 0))
 
 -- what is shown of an entry: none where it is far
 unfoldable pub shown : ℤ → ℤ

@@ -11,7 +11,7 @@ ghost use Rattle.table.specs.Links.{links};
 ghost use Rattle.net.specs.Net.{netOf, width};
 ghost use Rattle.floyd_warshall.specs.Promise.{Promise};
 ghost use Rattle.floyd_warshall.specs.Rounds.{lesser, block, Block, reaching, anyBelow, Strided, Begun, Rounded};
-ghost use Rattle.floyd_warshall.specs.Filling.{Square, Started, Sound, Ranked, linked, poured, Costs, shown, MatrixShown, Solved, refusalNo};
+ghost use Rattle.floyd_warshall.specs.Filling.{Square, Started, Sound, Ranked, linked, poured, Costs32Below, shown, MatrixShown, Solved, refusalNo};
 
 // What stands for "no walk" in the rounds: 2^50, far from every total.
 const FAR: i64 = 1125899906842624;
@@ -179,7 +179,7 @@ fn fill(
     cells: &mut [i64],
 )
     requires { ⌜ Sound (netOf (map .bound) (map .count) (map .directed) (now marks) (now from) (now to) (now costs)) × Ranked (netOf (map .bound) (map .count) (map .directed) (now marks) (now from) (now to) (now costs)) (now ranks) × (p ≡ width (netOf (map .bound) (map .count) (map .directed) (now marks) (now from) (now to) (now costs))) × Square p (now cells) ⌝ }
-    ensures { λ _. ⌜ Costs (now (costs .entry)) (map .count) × (now (cells .exit) ≡ poured (map .directed) p (now (ranks .entry)) (links (map .count) (now (from .entry)) (now (to .entry)) (now (costs .entry))) (now (cells .entry))) ⌝ }
+    ensures { λ _. ⌜ Costs32Below (now (costs .entry)) (map .count) × (now (cells .exit) ≡ poured (map .directed) p (now (ranks .entry)) (links (map .count) (now (from .entry)) (now (to .entry)) (now (costs .entry))) (now (cells .entry))) ⌝ }
 {
     let directed = map.directed;
     let n = map.count;

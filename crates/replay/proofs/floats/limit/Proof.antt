@@ -1,13 +1,15 @@
--- `replay::floats::limit` is safe and ends. Bits that are not bad may be added.
+-- `replay::floats::limit` is safe and ends. Bits that are not bad are those of no NaN.
 -- Assumes nothing.
 use borrow.Author.Needs.{needs}
 use mathlib.Core.Path.{sym, _∙_}
+use lib.Ieee.{binary64}
+use Rattle.float.proofs.Cost.{good-no-nan}
 use Rattle.replay.proofs.floats.limit.Statement.{statement}
 use Rattle.replay.proofs.floats.limit.Tie as tie
 
-plus-requires : tie.Need-plus-requires
-plus-requires c κs = sym (c .before .bad-cost .ensures) ∙ c .if1 .left
+float-from-bits-t3 : tie.Need-float-from-bits-t3
+float-from-bits-t3 c = good-no-nan binary64 _ (sym (c .before .bad-cost .ensures) ∙ c .if1 .left)
 
 pub limit-spec : {M : Type 1} → statement M
 limit-spec =
-    tie.close (tie.spec (λ c κs. search needs) (λ c κs. search needs) (λ c. search needs) plus-requires (λ c. search needs))
+    tie.close (tie.spec (λ c κs. search needs) (λ c κs. search needs) (λ c. search needs) float-from-bits-t3 (λ c. search needs))
