@@ -3,7 +3,7 @@
 # make audit: the documents alone, in seconds. make test-doors: the C and the Rust interface (cc, cargo).
 # make compare: the proved functions against the original and slow plain models (oracle/README.md says what it needs).
 # make bench: speed beside the original and other libraries; writes docs/BENCH.md and docs/bench.svg.
-# make wrong: tries every wrong answer of tests/wrong, in some six minutes on two cores; no part of the gate.
+# make wrong: tries every wrong answer of tests/wrong, in some eight minutes on two cores; no part of the gate.
 .PHONY: run test audit wrong test-tools test-doors test-c test-rust compare bench
 
 run:
