@@ -1,20 +1,22 @@
 # make run: proves the program `paths` and prints the sheet of an example.
-# make test: the documents against the tree and the tests of the tools (Python 3), then the gate.
-# make audit: the documents alone, in seconds. make test-doors: the C and the Rust interface (cc, cargo).
+# make test: the gate, .ci/run: the quick checks, then every crate from nothing (`rt ci`), then the cases of the programs that it built.
+# make quick: the documents against the tree, the unit tests of the tools, the wrong answers run (Python 3, rt); make audit: the documents alone, in seconds.
+# make cases: the cases of the programs in target/bin. make test-doors: the C and the Rust interface (cc, cargo).
 # make compare: the proved functions against the original and slow plain models (oracle/README.md says what it needs).
 # make bench: speed beside the original and other libraries; writes docs/BENCH.md and docs/bench.svg.
-# make wrong: tries every wrong answer of tests/wrong, in some eight minutes on two cores; no part of the gate.
-.PHONY: run test audit wrong test-tools test-doors test-c test-rust compare bench
+# make wrong: tries every wrong answer of tests/wrong on the prover, in some eight minutes on two cores; no part of the gate.
+.PHONY: run test quick audit test-tools cases wrong test-doors test-c test-rust compare bench
 
 run:
 	rt check paths
 	tools/run-program paths < examples/maps/carriers.map
 
-test: audit test-tools
+test:
 	bash .ci/run
 
+quick: audit test-tools
+
 audit:
-	tools/selftest
 	tools/settled
 	tools/believe
 	tools/trace
@@ -24,7 +26,10 @@ wrong:
 	tools/wrong --together
 
 test-tools:
-	python3 -m unittest discover -s tests/mapfile
+	tests/units
+
+cases:
+	python3 tests/mapfile/run_paths.py target/bin/paths
 
 test-doors: test-c test-rust
 
@@ -41,7 +46,6 @@ test-rust:
 
 compare:
 	rt check paths sheets
-	python3 tests/mapfile/run_paths.py target/bin/paths
 	python3 tests/mapfile/compare_program.py target/bin/sheets 100000
 	bash oracle/run
 

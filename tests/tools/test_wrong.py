@@ -1,0 +1,92 @@
+"""Does tools/wrong see a list of wrong answers that is not whole, an edit that does not fit, and a program that the prover does not refuse for its answer?"""
+
+import os
+import tempfile
+import unittest
+from unittest import mock
+
+from sound import LIB, SOUND, told, with_breaks, write
+
+THRICE = "tests/wrong/small/thrice.edit"
+
+BREAKS = [
+    ("tests/wrong/gate.txt", "small/zero: small::count\n", "", "small::count: 1 wrong answers are named"),
+    ("tests/wrong/gate.txt", "small/zero", "small/none", "gate.txt:2: no such edit"),
+    ("tests/wrong/gate.txt", "small/zero", "small/thrice", "gate.txt:2: the edit changes no source"),
+    ("tests/wrong/gate.txt", "small/zero: small::count\n", "small/zero: small::count\nsmall/zero: small::tell\n", "small/zero counts once"),
+    (LIB, "// A place", "// New.\npub fn fresh(n: usize) -> usize\n{\n    n\n}\n\n// A place", "small::fresh: 0 wrong answers are named"),
+    (THRICE, "small::double", "small::treble", "there is no public function small::treble"),
+    (THRICE, "# a wrong answer\n", "", "it has to have the lines"),
+    (THRICE, "src/lib.rt", "specs/Sums.antt", "it changes no source"),
+    (THRICE, "src/lib.rt", "src/other.rt", "there is no src/other.rt"),
+    (THRICE, "in: double", "in: treble", "there is not one function treble"),
+    (THRICE, "old:     n + n", "old:     n - n", "its old text stands 0 times"),
+    (THRICE, "old:     n + n", "old: n", "its old text stands"),
+    (THRICE, "new:     n + n + n", "new:     n + n", "it changes nothing"),
+    (THRICE, "new:     n + n + n", "new:     n", "the same program as"),
+]
+
+# what a prover says of the sound tree with an edit, its exit status, and a part of what `wrong` has to say
+NAMED = "x/proofs/double/Proof.antt:1:1: error: `%s`: the two types differ\nfn small::double: not proved\nlogic=not-proved\n"
+REFUSED = [
+    (NAMED % "returns-2", 1, "refused at small::double, returns-2"),
+    (NAMED % "loop-again", 1, "refused at small::double, loop-again"),
+    ((NAMED % "walk").replace("not proved\n", "not proved; the borrow checker does not cover this function yet\n", 1), 1, "refused at small::double, walk"),
+    ("fn small::double: no proof: expected `double-spec` in x; `search` does not close `returns`\nlogic=not-proved\n", 1, "refused at small::double, returns"),
+]
+NOT_REFUSED = [
+    ("logic=proved\n", 0, "NOT REFUSED"),
+    ("error: mismatched types\n", 1, "it did not reach the prover"),
+    (NAMED % "returns", 2, "it did not reach the prover"),
+    ((NAMED % "returns").replace("double", "tell"), 1, "double was changed, and refused was small::tell"),
+    (NAMED % "add-result", 1, "refused at small::double, add-result"),
+    (NAMED % "wipe-requires", 1, "refused at small::double, wipe-requires"),
+    (NAMED % "loop-less", 1, "refused at small::double, loop-less"),
+    ((NAMED % "returns").replace("the two types differ", "record `x` has no field `args`"), 1, "refused at small::double, nothing that has a name"),
+]
+
+
+def tried(plain, said, status, words=("small/thrice",)):
+    """The exit status and the words of the tool on an edit, with a prover that says this of it, and ends with a status on the tree without it."""
+    with tempfile.TemporaryDirectory() as root:
+        prover = '#!/bin/sh\n[ "$1" = dev ] || exit 0\ngrep -q "    n + n + n" crates/small/src/lib.rt || exit %d\ncat "%s/said"\nexit %d\n' % (plain, root, status)
+        write(root, dict(SOUND, said=said, **{"bin/rt": prover}))
+        os.chmod(os.path.join(root, "bin", "rt"), 0o755)
+        with mock.patch.dict(os.environ, PATH=os.path.join(root, "bin") + os.pathsep + os.environ["PATH"]):
+            return told("wrong", ["--root=" + root] + list(words))
+
+
+@with_breaks("wrong", BREAKS)
+class Wrong(unittest.TestCase):
+    """The sound tree passes, each break of it is seen, and so is what a prover says of an edit."""
+
+    def test_refused(self):
+        """The edit is refused as it has to be."""
+        for said, status, words in REFUSED:
+            with self.subTest(words):
+                ended, out = tried(0, said, status)
+                self.assertIn(words, out)
+                self.assertTrue(out.endswith("1 passed, 0 failed\n"), out)
+                self.assertEqual(ended, 0)
+
+    def test_not_refused(self):
+        """The edit is not refused, or for something else."""
+        for plain, said, status, words in [(0,) + x for x in NOT_REFUSED] + [(1, "", 0, "the crate is not proved without it")]:
+            with self.subTest(words):
+                ended, out = tried(plain, said, status)
+                self.assertIn(words, out)
+                self.assertTrue(out.endswith("0 passed, 1 failed\n"), out)
+                self.assertEqual(ended, 1)
+
+    def test_together(self):
+        """Of two edits at once each has its own verdict."""
+        pair, both = ["--together", "small/thrice", "small/tell_zero"], NAMED % "returns" + (NAMED % "returns").replace("double", "tell")
+        for said, words, last in ((both, "refused at small::tell, returns", "2 passed, 0 failed\n"), (NAMED % "returns", "NOT REFUSED", "1 passed, 1 failed\n")):
+            with self.subTest(words):
+                _, out = tried(0, said, 1, pair)
+                self.assertIn(words, out)
+                self.assertTrue(out.endswith(last), out)
+
+
+if __name__ == "__main__":
+    unittest.main()
