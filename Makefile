@@ -5,7 +5,7 @@
 # make compare: the proved functions against the original and slow plain models (oracle/README.md says what it needs).
 # make bench: speed beside the original and other libraries; writes docs/BENCH.md and docs/bench.svg.
 # make wrong: tries every wrong answer of tests/wrong on the prover, in some eight minutes on two cores; no part of the gate.
-.PHONY: run test quick audit test-tools cases wrong test-doors test-c test-rust compare bench
+.PHONY: run test quick audit test-tools differ cases wrong test-doors test-c test-rust compare bench
 
 run:
 	rt check paths
@@ -14,7 +14,7 @@ run:
 test:
 	bash .ci/run
 
-quick: audit test-tools
+quick: audit test-tools differ
 
 audit:
 	tools/settled
@@ -27,6 +27,9 @@ wrong:
 
 test-tools:
 	tests/units
+
+differ:
+	tools/differ
 
 cases:
 	python3 tests/mapfile/run_paths.py target/bin/paths

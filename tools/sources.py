@@ -24,7 +24,7 @@ class Function:
 
     def __init__(self, crate, name, file, line, params, result, clauses, head):
         self.crate, self.name, self.file, self.line = crate, name, file, line
-        self.result, self.head = result, head
+        self.params, self.result, self.head = params, result, head
         self.written = [p for p, kind in params if re.match(r"&\s*('\w+\s+)?mut\b", kind)]
         self.requires = [text for word, text in clauses if word == "requires"]
         self.ensures = [contract(text) for word, text in clauses if word == "ensures"]

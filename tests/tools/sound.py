@@ -52,9 +52,8 @@ pub fn somewhere(out: &mut [u8])
     out[0] = 0;
 }
 """,
-    "crates/small/must-fail/zero.edit": "file: src/lib.rt\nold: number: n,\nnew: number: 0,\n",
+    "crates/small/must-fail/zero.edit": "# function: small::count\n# no number\nfile: src/lib.rt\nold: number: n,\nnew: number: 0,\n",
     "crates/small/must-fail/thrice.edit": "file: specs/Sums.antt\nold: n + n\nnew: n + n + n\n",
-    "tests/wrong/gate.txt": "# of the gate\nsmall/zero: small::count\n",
     "crates/small/specs/Sums.antt": """-- Small definitions.
 use mathlib.Core.Path.{_≡_}
 use mathlib.Core.List.{List}

@@ -7,13 +7,13 @@ from unittest import mock
 
 from sound import LIB, SOUND, told, with_breaks, write
 
-THRICE = "tests/wrong/small/thrice.edit"
+THRICE, ZERO = "tests/wrong/small/thrice.edit", "crates/small/must-fail/zero.edit"
 
 BREAKS = [
-    ("tests/wrong/gate.txt", "small/zero: small::count\n", "", "small::count: 1 wrong answers are named"),
-    ("tests/wrong/gate.txt", "small/zero", "small/none", "gate.txt:2: no such edit"),
-    ("tests/wrong/gate.txt", "small/zero", "small/thrice", "gate.txt:2: the edit changes no source"),
-    ("tests/wrong/gate.txt", "small/zero: small::count\n", "small/zero: small::count\nsmall/zero: small::tell\n", "small/zero counts once"),
+    (ZERO, "# function: small::count\n", "", "small::count: 1 wrong answers are named"),
+    (ZERO, "src/lib.rt", "specs/Sums.antt", "zero.edit: it changes no source"),
+    (ZERO, "small::count", "small::nothing", "there is no public function small::nothing"),
+    (ZERO, "old: number: n,", "old: number: m,", "zero.edit: its old text stands 0 times"),
     (LIB, "// A place", "// New.\npub fn fresh(n: usize) -> usize\n{\n    n\n}\n\n// A place", "small::fresh: 0 wrong answers are named"),
     (THRICE, "small::double", "small::treble", "there is no public function small::treble"),
     (THRICE, "# a wrong answer\n", "", "it has to have the lines"),

@@ -1,0 +1,86 @@
+"""Wrong answers as edits of the sources: the files of tests/wrong and of crates/CRATE/must-fail that the tools beside this file try."""
+import glob
+import os
+import re
+
+from sources import read, without_comments
+
+
+class Edit:
+    """One replacement in the sources of a crate, the function whose answer it makes wrong, and an input with the right and the wrong answer."""
+
+    def __init__(self, root, crate, path):
+        self.crate, self.name, self.path = crate, os.path.basename(path)[:-5], os.path.relpath(path, root)
+        self.function = self.words = self.file = self.inside = self.old = ""
+        self.new, self.trouble = None, None
+        self.input, self.right, self.wrong = [], [], []
+        lines = read(path).split("\n")
+        head = re.match(r"# function: (\S+)$", lines[0])
+        self.function = head.group(1) if head else ""
+        self.words = lines[1][2:].strip() if len(lines) > 1 and lines[1].startswith("# ") else ""
+        for line in lines[2:]:
+            word, _, rest = (line + " ").partition(": ") if line == "new:" else line.partition(": ")
+            if word in ("file", "old", "new"):
+                setattr(self, word, rest)
+            elif word == "in":
+                self.inside = rest
+            elif word in ("input", "right", "wrong"):
+                name, _, value = rest.partition(" = ")
+                getattr(self, word).append((name.strip(), value.strip()))
+        if not (self.function and self.words and self.file and self.old and self.new is not None):
+            self.trouble = "it has to have the lines `# function:`, `# ..`, `file:`, `old:` and `new:`"
+        elif not re.match(r"src/[\w/]+\.rt$", self.file):
+            self.trouble = "it changes no source"
+        elif not os.path.exists(os.path.join(root, "crates", crate, self.file)):
+            self.trouble = "there is no " + self.file
+        else:
+            self.place(read(os.path.join(root, "crates", crate, self.file)))
+
+    def place(self, text):
+        """The edited text, and the function that it stands in."""
+        start, end = 0, len(text)
+        spans = functions(text)
+        if self.inside:
+            found = [s for s in spans if s[0] == self.inside]
+            if len(found) != 1:
+                self.trouble = "there is not one function " + self.inside
+                return
+            start, end = found[0][1:]
+        if text.count(self.old, start, end) != 1:
+            self.trouble = "its old text stands %d times" % text.count(self.old, start, end)
+            return
+        self.at = text.index(self.old, start, end)
+        self.changed = ([s[0] for s in spans if s[1] <= self.at < s[2]] or [""])[-1]
+        self.text = self.applied(text)
+        if without_comments(self.text) == without_comments(text):
+            self.trouble = "it changes nothing"
+
+    def applied(self, text):
+        """A text with the replacement, where nothing before it was changed."""
+        return text[:self.at] + self.new + text[self.at + len(self.old):]
+
+
+def functions(text):
+    """The functions of a source: name, start and end."""
+    out = []
+    for m in re.finditer(r"(?m)^( *)(?:pub (?:extern \"C\" )?)?fn (\w+)[<(]", text):
+        close = re.compile(r"(?m)^" + m.group(1) + r"\}$").search(text, m.end())
+        out.append((m.group(2), m.start(), close.end() if close else len(text)))
+    return out
+
+
+def read_edits(root):
+    """The edits of tests/wrong."""
+    return [Edit(root, os.path.basename(os.path.dirname(path)), path) for path in sorted(glob.glob(os.path.join(root, "tests", "wrong", "*", "*.edit")))]
+
+
+def gate_edits(root):
+    """The edits of the gate that are wrong answers of a function: those that name one. The others are wrong definitions."""
+    paths = sorted(glob.glob(os.path.join(root, "crates", "*", "must-fail", "*.edit")))
+    return [Edit(root, path.split(os.sep)[-3], path) for path in paths if read(path).startswith("# function: ")]
+
+
+def write(path, text):
+    """A text, written to a file."""
+    with open(path, "w", encoding="utf-8") as f:
+        f.write(text)
