@@ -2,7 +2,7 @@
 
     python3 tests/mapfile/compare_program.py PROGRAM [COUNT [SEED]]
 
-PROGRAM is target/bin/sheets once it is proved. The last line is `N passed, M failed`; the exit status is 1 if some failed.
+PROGRAM is target/bin/sheets once it is proved. The last line is `N passed, M failed`; the exit status is 1 if some failed or none ran.
 """
 
 import collections
@@ -63,7 +63,7 @@ def main(words):
     for kind, number in sorted(kinds.items()):
         print(f"{kind}: {number}")
     print(f"{passed} passed, {failed} failed")
-    return 1 if failed else 0
+    return 1 if failed or not passed else 0
 
 
 if __name__ == "__main__":
