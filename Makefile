@@ -21,6 +21,7 @@ audit:
 	tools/believe
 	tools/trace
 	tools/wrong --list
+	python3 tests/c/signatures.py
 
 wrong:
 	tools/wrong --together
@@ -37,7 +38,6 @@ cases:
 test-doors: test-c test-rust
 
 test-c:
-	python3 tests/c/signatures.py
 	mkdir -p target/c
 	archive=$$(tools/native-archive) && for p in tests/c/doors examples/c/carriers; do \
 	  $(CC) -std=c99 -Wall -Wextra -pedantic -Werror -Iinclude $$p.c "$$archive/libdimetumble.a" -o target/c/$${p##*/} || exit 1; done
