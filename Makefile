@@ -4,8 +4,9 @@
 # make cases: the cases of the programs in target/bin. make test-doors: the C and the Rust interface (cc, cargo).
 # make compare: the proved functions against the original and slow plain models (oracle/README.md says what it needs).
 # make bench: speed beside the original and other libraries; writes docs/BENCH.md and docs/bench.svg.
+# make weaker: tries every listed weakening of a tool of tools/ on its unit tests, in some minutes; no part of the gate.
 # make wrong: tries every wrong answer of tests/wrong on the prover, in some eight minutes on two cores; no part of the gate.
-.PHONY: run test quick audit test-tools differ cases wrong test-doors test-c test-rust compare bench
+.PHONY: run test quick audit test-tools differ weaker cases wrong test-doors test-c test-rust compare bench
 
 run:
 	rt check paths
@@ -19,7 +20,9 @@ quick: audit test-tools differ
 audit:
 	tools/settled
 	tools/believe
+	tools/statements
 	tools/trace
+	tools/figures
 	tools/wrong --list
 	python3 tests/c/signatures.py
 
@@ -32,8 +35,12 @@ test-tools:
 differ:
 	tools/differ
 
+weaker:
+	tests/tools/weaker
+
 cases:
 	python3 tests/mapfile/run_paths.py target/bin/paths
+	python3 tests/replay/run_replay.py target/bin/replay
 
 test-doors: test-c test-rust
 

@@ -18,15 +18,17 @@ class Edit:
         head = re.match(r"# function: (\S+)$", lines[0])
         self.function = head.group(1) if head else ""
         self.words = lines[1][2:].strip() if len(lines) > 1 and lines[1].startswith("# ") else ""
+        once = {"file": "file", "in": "inside", "old": "old", "new": "new"}
         for line in lines[2:]:
             word, _, rest = (line + " ").partition(": ") if line == "new:" else line.partition(": ")
-            if word in ("file", "old", "new"):
-                setattr(self, word, rest)
-            elif word == "in":
-                self.inside = rest
+            if word in once:
+                setattr(self, once.pop(word), rest)
             elif word in ("input", "right", "wrong"):
-                name, _, value = rest.partition(" = ")
+                name, given, value = (rest + " ").partition(" = ")
                 getattr(self, word).append((name.strip(), value.strip()))
+                self.trouble = self.trouble if given else "a line `%s:` has no ` = `" % word
+            elif line and not line.startswith("#"):
+                self.trouble = "a line of no kind, or one more of its kind: " + line
         if not (self.function and self.words and self.file and self.old and self.new is not None):
             self.trouble = "it has to have the lines `# function:`, `# ..`, `file:`, `old:` and `new:`"
         elif not re.match(r"src/[\w/]+\.rt$", self.file):
@@ -54,6 +56,10 @@ class Edit:
         self.text = self.applied(text)
         if without_comments(self.text) == without_comments(text):
             self.trouble = "it changes nothing"
+
+    def stop(self):
+        """What stops the edited program, in the interpreter's word, where that stands in the place of a wrong answer."""
+        return self.wrong[0][1] if [name for name, _ in self.wrong] == ["stops"] else None
 
     def applied(self, text):
         """A text with the replacement, where nothing before it was changed."""

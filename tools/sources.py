@@ -20,20 +20,23 @@ def flat(text):
 
 
 class Function:
-    """A public function: its name with crate and module, the lent slices it may write, its result and its contract."""
+    """A public function: its name with crate and module, the lent slices it may write, its result and its contract. `found` are the sources of its crate,
+    `holders` the structs that hold something lent that may be written."""
 
-    def __init__(self, crate, name, file, line, params, result, clauses, head):
-        self.crate, self.name, self.file, self.line = crate, name, file, line
+    def __init__(self, name, file, line, params, result, clauses, head, found, holders):
+        self.crate, self.name, self.file, self.line = name.split("::")[0], name, file, line
         self.params, self.result, self.head = params, result, head
-        self.written = [p for p, kind in params if re.match(r"&\s*('\w+\s+)?mut\b", kind)]
+        self.fields = struct_fields(found, result)
+        self.written = [p for p, kind in params if LENT.search(kind) or holders & set(re.findall(r"\w+", kind))]
         self.requires = [text for word, text in clauses if word == "requires"]
         self.ensures = [contract(text) for word, text in clauses if word == "ensures"]
 
 
 def contract(text):
-    """The name of the result and the statement, of `λ r. ⌜ statement ⌝`."""
-    m = re.match(r"\s*λ\s*(\S+?)\.\s*⌜(.*)⌝\s*$", text, re.S)
-    return (m.group(1), flat(m.group(2))) if m else ("_", flat(text.replace("⌜", "").replace("⌝", "")))
+    """The name of the result and the statement, of `λ r. ⌜ statement ⌝`; of another form, no name and all of it. Names are without « and »."""
+    text = re.sub("[«»]", "", text)
+    m = re.match(r"\s*λ\s*(\S+?)\.\s*⌜([^⌜⌝]*)⌝\s*$", text)
+    return (m.group(1), flat(m.group(2))) if m else ("_", flat(text))
 
 
 def closing(text, at):
@@ -77,35 +80,67 @@ def without_comments(text):
     return re.sub(r"//[^\n]*", lambda m: " " * len(m.group()), text)
 
 
-FN = re.compile(r'\bpub\s+(?:unsafe\s+)?(?:extern\s+"C"\s+)?fn\s+(\w+)\s*(<[^>]*>)?\s*\(')
+SOURCES = (".antt", ".rt", ".rs", ".c", ".cpp", ".h")
+NO_CODE = {
+    "antt": re.compile(r"(?m)(^|\s)--(\s.*)?$"),
+    "source": re.compile(r"(?s)'(?:\\.|[^'\\\n])'|\"(?:\\.|[^\"\\])*\"|//[^\n]*|/\*.*?\*/"),
+    "script": re.compile(r"(?m)(^|\s)#.*$"),
+}
+
+
+def code_of(path, text):
+    """A file of any language without its comments, a source also without its strings."""
+    return NO_CODE["antt" if path.endswith(".antt") else "source" if path.endswith(SOURCES) else "script"].sub(" ", text)
+
+
+FN = re.compile(r'\bpub\s+(?:[\w"]+\s+)*fn\s+(\w+)\s*(<[^>]*>)?\s*\(')
+LENT = re.compile(r"&\s*('\w+\s+)?mut\b")
+
+
+def sources(root, crate):
+    """The texts of a crate's sources, without comments, by file."""
+    files = sorted(glob.glob(os.path.join(root, "crates", crate, "src", "**", "*.rt"), recursive=True))
+    return {file: without_comments(read(file)) for file in files}
 
 
 def public_functions(root):
-    """Every public function of every crate."""
+    """Every public function of every crate: of each module but those that the top of the crate declares without `pub`."""
+    texts = {crate: sources(root, crate) for crate in crates(root)}
+    holders = lent_structs([text for found in texts.values() for text in found.values()])
     out = []
-    for crate in crates(root):
+    for crate, found in texts.items():
         src = os.path.join(root, "crates", crate, "src")
-        tops = [t for t in ("lib.rt", "main.rt") if os.path.exists(os.path.join(src, t))]
-        for file in sorted(glob.glob(os.path.join(src, "**", "*.rt"), recursive=True)):
+        for file, text in found.items():
             module = os.path.relpath(file, src)[:-3].replace(os.sep, "::")
-            if os.path.basename(file) not in ("lib.rt", "main.rt"):
-                if not any(re.search(r"(?m)^\s*pub mod " + module.split("::")[-1] + r"\b", read(os.path.join(src, t))) for t in tops):
-                    continue
+            private = r"(?m)^\s*mod " + module.split("::")[0] + r"\b"
+            if any(re.search(private, found.get(os.path.join(src, top), "")) for top in ("lib.rt", "main.rt")):
+                continue
             place = crate if module in ("lib", "main") else crate + "::" + module
-            text = without_comments(read(file))
             for m in FN.finditer(text):
-                out.append(function_at(root, crate, place, file, text, m))
+                out.append(function_at(root, place, file, found, m, holders))
     return out
 
 
-def function_at(root, crate, place, file, text, m):
-    """The public function whose head starts at a match of FN."""
+def lent_structs(texts):
+    """The structs of some sources that hold something lent that may be written, or such a struct."""
+    heads = [(text, m) for text in texts for m in re.finditer(r"\bstruct\s+(\w+)[^({;]*[({]", text)]
+    bodies = [(m.group(1), text[m.end():closing(text, m.end() - 1)]) for text, m in heads]
+    holders, before = {name for name, body in bodies if LENT.search(body)}, None
+    while holders != before:
+        before = holders
+        holders = holders | {name for name, body in bodies if holders & set(re.findall(r"\w+", body))}
+    return holders
+
+
+def function_at(root, place, file, found, m, holders):
+    """The public function whose head starts at a match of FN in a file of the sources of a crate."""
+    text = found[file]
     close = closing(text, m.end() - 1)
     params = []
     for p in split_top(text[m.end():close], ","):
-        if ":" in p:
-            name, kind = p.split(":", 1)
-            params.append((name.replace("mut ", "").strip(), kind.strip()))
+        name, _, kind = p.partition(":")
+        if name.strip():
+            params.append((re.findall(r"\w+", name)[-1], kind or name))
     at, result, clauses = close + 1, "", []
     arrow = re.match(r"\s*->\s*", text[at:])
     if arrow:
@@ -127,18 +162,17 @@ def function_at(root, crate, place, file, text, m):
             owner = i.group(1) + "::"
     line = text.count("\n", 0, m.start()) + 1
     head = [x for x in text[m.start():at].split("\n") if x.strip()]
-    return Function(crate, place + "::" + owner + m.group(1), os.path.relpath(file, root), line, params, result, clauses, head)
+    return Function(place + "::" + owner + m.group(1), os.path.relpath(file, root), line, params, result, clauses, head, found, holders)
 
 
-def struct_fields(root, crate, name):
-    """The fields of a struct declared in a crate, or none where it declares no such struct."""
+def struct_fields(found, name):
+    """The fields of a struct declared in the sources of a crate, or none where they declare no such struct."""
     name = re.sub(r"<.*", "", name).split("::")[-1]
-    for file in glob.glob(os.path.join(root, "crates", crate, "src", "**", "*.rt"), recursive=True):
-        text = without_comments(read(file))
+    for text in found.values():
         m = re.search(r"\bstruct\s+" + re.escape(name) + r"\s*(<[^>]*>)?\s*\{", text)
         if m:
             body = text[m.end():closing(text, m.end() - 1)]
-            return [f.split(":")[0].replace("pub", "").strip() for f in split_top(body, ",") if ":" in f]
+            return [f.split(":")[0].split()[-1] for f in split_top(body, ",") if ":" in f]
     return None
 
 
@@ -295,8 +329,7 @@ class Tree:
 
     def declared(self, crate, name):
         """A struct or enum of a source, as a definition."""
-        for path in sorted(glob.glob(os.path.join(self.root, "crates", crate, "src", "**", "*.rt"), recursive=True)):
-            text = without_comments(read(path))
+        for path, text in sources(self.root, crate).items():
             m = re.search(r"(?m)^pub (?:struct|enum)\s+" + re.escape(name) + r"\b[^{;]*\{", text)
             if m:
                 d = Definition(os.path.relpath(path, os.path.join(self.root, "crates")), name, 0, [])
@@ -315,12 +348,57 @@ class Tree:
 
 # ---- documents
 
+# those that speak of now, the folder of those that tell what was, those that a tool makes
+NOW = (
+    "README.md", "docs/AUDIT.md", "docs/BENCH.md", "docs/DECISIONS.md", "docs/DIFFERENCES.md", "docs/EXCEPTIONS.md", "docs/PROVING.md", "docs/SCRATCH.md",
+    "docs/SETTLED.md", "docs/TRACE.md", "examples/README.md", "oracle/README.md", "crates/replay/LIST.md",
+)
+HISTORY = "docs/changes/"
+MADE = ("docs/STATEMENTS.md",)
+
+
+def tree_files(root):
+    """Every file of the tree, but for the folders that a .gitignore names."""
+    out, ignored = [], {".git"}
+    for folder, below, files in os.walk(root):
+        place = os.path.relpath(folder, root)
+        if ".gitignore" in files:
+            for entry in re.findall(r"(?m)^(\S+)/$", read(os.path.join(folder, ".gitignore"))):
+                ignored.add(os.path.normpath(os.path.join(place, entry)) if "/" in entry else entry)
+        below[:] = sorted(d for d in below if d not in ignored and os.path.normpath(os.path.join(place, d)) not in ignored)
+        out += [os.path.normpath(os.path.join(place, f)) for f in sorted(files)]
+    return out
+
 
 def cells(line):
     """The cells of a line of a table, or nothing where it is none."""
     if not line.startswith("|"):
         return []
     return [c.strip() for c in line.strip().strip("|").split("|")]
+
+
+def lines_of(root, path):
+    """The lines of a document, each with its number and its block: none, or the language, which is empty for a plain or indented block.
+
+    Of a table of docs/TRACE.md the last cell stands for the line.
+    """
+    block = None
+    for number, line in enumerate(read(os.path.join(root, path)).split("\n"), 1):
+        if line.startswith("```"):
+            block = line[3:] if block is None else None
+        elif block is None and line.startswith("    "):
+            yield number, "", line
+        else:
+            yield number, block, cells(line)[-1] if path == "docs/TRACE.md" and cells(line) else line
+
+
+NUMBERS = ("one", "two", "three", "four", "five", "six", "seven", "eight", "nine", "ten", "eleven", "twelve")
+FIGURE = r"(\d{1,3}(?:,\d{3})+|\d+|%s)" % "|".join(NUMBERS)
+
+
+def figure(text):
+    """The number that a figure of a document says."""
+    return NUMBERS.index(text) + 1 if text in NUMBERS else int(text.replace(",", ""))
 
 
 def tables(text):
@@ -342,3 +420,19 @@ def tables(text):
 def quoted(text):
     """What stands between backticks."""
     return re.findall(r"`([^`]+)`", text)
+
+
+def theorems(root, tree, trouble):
+    """The theorems that the first table of the audit page names: question, file and definition; `..-end` stands for all public ones of that end."""
+    out, question = [], ""
+    for row in tables(read(os.path.join(root, "docs", "AUDIT.md")))[0][1]:
+        question = row[0] or question
+        if not quoted(row[1]) or not quoted(row[2]):
+            trouble.append("docs/AUDIT.md: no theorem or no file: " + " | ".join(row[:3]))
+        for file, name in ((file, name) for file in quoted(row[2]) for name in quoted(row[1])):
+            f = tree.file(file)
+            meant = [d for d in f.defs.values() if d.name == name or name.startswith("..") and d.public and d.name.endswith(name[2:])] if f else []
+            if not meant:
+                trouble.append("no theorem %s in %s" % (name, file))
+            out += [(question, file, d) for d in meant]
+    return out

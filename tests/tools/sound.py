@@ -1,12 +1,15 @@
-"""A small sound tree, which passes every tool of tools/, and how a tool is run on it and on what is broken of it."""
+"""A small sound tree, which the tests of each tool build on, and how a tool is run on a tree and on what is broken of it."""
 
 import contextlib
+import functools
 import importlib.machinery
 import importlib.util
 import io
 import os
+import subprocess
 import sys
 import tempfile
+from unittest import mock
 
 TOOLS = os.path.join(os.path.dirname(os.path.dirname(os.path.dirname(os.path.abspath(__file__)))), "tools")
 LIB, SUMS, ONE = "crates/small/src/lib.rt", "crates/small/specs/Sums.antt", "crates/small/proofs/One.antt"
@@ -52,7 +55,6 @@ pub fn somewhere(out: &mut [u8])
     out[0] = 0;
 }
 """,
-    "crates/small/must-fail/zero.edit": "# function: small::count\n# no number\nfile: src/lib.rt\nold: number: n,\nnew: number: 0,\n",
     "crates/small/must-fail/thrice.edit": "file: specs/Sums.antt\nold: n + n\nnew: n + n + n\n",
     "crates/small/specs/Sums.antt": """-- Small definitions.
 use mathlib.Core.Path.{_≡_}
@@ -91,6 +93,23 @@ told-one p q = (p .kept ∙ sym (q .kept), p .is ∙ sym (q .is))
 -- twice is twice
 pub twice-is : (n : ℕ) → twice n ≡ twice n
 twice-is n = refl
+
+module _ (k : ℕ) where
+  pub twice-again : twice k ≡ twice k
+  twice-again = refl
+""",
+    "crates/audit/proofs/Lean.antt": """-- What leans on the theorems.
+use mathlib.Core.Path.{_≡_, sym}
+use Prim.Native.Nat.{ℕ}
+use Rattle.small.specs.Sums.{twice}
+use Rattle.small.proofs.One.{twice-is}
+use Rattle.small.proofs.One as one
+
+pub twice-turned : (n : ℕ) → twice n ≡ twice n
+twice-turned n = sym (twice-is n)
+
+pub again-turned : (k : ℕ) → twice k ≡ twice k
+again-turned k = sym (one.twice-again k)
 """,
     "docs/SETTLED.md": "# Settled\n\n| Function | Law |\n|---|---|\n| `small::tell` | `small/proofs/One.antt` `told-one` |\n| `small::count` | by equation |\n",
     "docs/EXCEPTIONS.md": "# Exceptions\n\n| Function | Left open | Cause |\n|---|---|---|\n| `small::somewhere` | the slice | none |\n\n## Shut out\n\n| Function | What | Cause |\n|---|---|---|\n| `small::double` | large numbers | none |\n",
@@ -101,6 +120,7 @@ twice-is n = refl
 | Question | Theorem | File | In words |
 |---|---|---|---|
 | twice? | `twice-is` | `small/proofs/One.antt` | it is |
+| | `..-again` | `small/proofs/One.antt` | it is, again |
 
 ## What must be believed
 
@@ -114,19 +134,21 @@ The 4 lines of the 2 contracts: `make test`.
 }
 
 
-def edit(function, place, old, new):
-    """An edit of the sound tree, with its words."""
-    return "# function: small::%s\n# a wrong answer\nfile: src/lib.rt\nin: %s\nold: %s\nnew: %s\n" % (function, place, old, new)
+def edit(function, place, old, new, shown):
+    """An edit of the sound tree with its words, and what is shown of it: the input, the right and the wrong answer."""
+    lines = ["# function: small::" + function, "# a wrong answer", "file: src/lib.rt"] + ["in: " + place] * bool(place) + ["old: " + old, "new: " + new]
+    return "\n".join(lines + ["%s: %s" % x for x in zip(("input", "right", "wrong"), shown)]) + "\n"
 
 
 SOUND.update({
-    "tests/wrong/small/thrice.edit": edit("double", "double", "    n + n", "    n + n + n"),
-    "tests/wrong/small/once.edit": edit("double", "double", "    n + n", "    n"),
-    "tests/wrong/small/tell_zero.edit": edit("tell", "tell", "    n", "    0"),
-    "tests/wrong/small/tell_one.edit": edit("tell", "tell", "    n", "    1"),
-    "tests/wrong/small/short.edit": edit("count", "count", "length: n + n", "length: n"),
-    "tests/wrong/small/some_one.edit": edit("somewhere", "somewhere", "= 0;", "= 1;"),
-    "tests/wrong/small/some_two.edit": edit("somewhere", "somewhere", "= 0;", "= 2;"),
+    "tests/wrong/small/thrice.edit": edit("double", "double", "    n + n", "    n + n + n", ("n = 3", "result = 6", "result = 9")),
+    "tests/wrong/small/once.edit": edit("double", "double", "    n + n", "    n", ("n = 3", "result = 6", "result = 3")),
+    "tests/wrong/small/tell_zero.edit": edit("tell", "tell", "    n", "    0", ("n = 3", "result = 3", "result = 0")),
+    "tests/wrong/small/tell_one.edit": edit("tell", "tell", "    n", "    1", ("n = 3", "result = 3", "result = 1")),
+    "tests/wrong/small/short.edit": edit("count", "count", "length: n + n", "length: n", ("n = 3", "result.length = 6", "result.length = 3")),
+    "tests/wrong/small/some_one.edit": edit("somewhere", "somewhere", "= 0;", "= 1;", ("out = [5, 5]", "out = 0 5", "out = 1 5")),
+    "tests/wrong/small/some_two.edit": edit("somewhere", "somewhere", "= 0;", "= 2;", ("out = [5; 9]", "out = 0 5 ..", "out = 2 5 ..")),
+    "crates/small/must-fail/zero.edit": edit("count", "", "number: n,", "number: 0,", ("n = 3", "result.number = 3", "result.number = 0")),
 })
 
 
@@ -139,6 +161,7 @@ def write(root, files):
             f.write(text)
 
 
+@functools.lru_cache(maxsize=None)
 def loaded(tool):
     """A tool of tools/ as a module."""
     path = os.path.join(TOOLS, tool)
@@ -148,54 +171,106 @@ def loaded(tool):
     return module
 
 
-def told(tool, words):
-    """The exit status of a tool on words, and what it says."""
-    said, before = io.StringIO(), sys.argv
-    sys.argv = [tool] + words
-    try:
+def told(tool, words, **changed):
+    """The exit status of a tool on words, and what it says, where some of its names stand for something else."""
+    said, module = io.StringIO(), loaded(tool)
+    with mock.patch.dict(vars(module), changed), mock.patch.object(sys, "argv", [tool] + words):
         with contextlib.redirect_stdout(said), contextlib.redirect_stderr(said):
-            status = loaded(tool).main()
-    finally:
-        sys.argv = before
+            status = module.main()
     return status, said.getvalue()
 
 
-def run(tool, files):
-    """The exit status of a tool on a tree of these files, and what it says."""
-    with tempfile.TemporaryDirectory() as root:
-        write(root, files)
-        return told(tool, ["--list", "--root=" + root] if tool == "wrong" else [root])
+@functools.lru_cache(maxsize=None)
+def kept_tree():
+    """A folder that is kept while the tests run, and the files in it: from one test to the next few of them differ."""
+    return tempfile.TemporaryDirectory(), {}
 
 
-def passes_sound(tool):
-    """A test: the sound tree passes a tool."""
+def run(tool, files, words=()):
+    """The exit status of a tool on a tree of these files, with more words, and what it says."""
+    folder, there = kept_tree()
+    for name in set(there) - set(files):
+        path = os.path.join(folder.name, name)
+        os.remove(path)
+        with contextlib.suppress(OSError):
+            os.removedirs(os.path.dirname(path))
+    write(folder.name, {name: text for name, text in files.items() if there.get(name) != text})
+    there.clear()
+    there.update(files)
+    return told(tool, list(words) + (["--list", "--root=" + folder.name] if tool == "wrong" else [folder.name]))
+
+
+SOUND["docs/STATEMENTS.md"] = loaded("statements").OPENING + """
+
+## twice?
+
+### `twice-is`
+
+`small/proofs/One.antt`; on it lean `audit/proofs/Lean.antt` `twice-turned`
+
+```
+pub twice-is : (n : ℕ) → twice n ≡ twice n
+```
+
+### `twice-again`
+
+`small/proofs/One.antt`; on it lean `audit/proofs/Lean.antt` `again-turned`
+
+```
+module _ (k : ℕ) where
+  pub twice-again : twice k ≡ twice k
+```
+"""
+
+
+def passes_sound(tool, files=SOUND):
+    """A test: a sound tree passes a tool."""
 
     def test(self):
-        status, said = run(tool, SOUND)
+        status, said = run(tool, files)
         self.assertEqual(status, 0, said)
 
     return test
 
 
-def sees(tool, name, old, new, words):
-    """A test: a tool sees what is broken, and says these words of it. The old text stands once in the file."""
+def broken(files, name, old, new):
+    """A tree with one change: the old text of a file made new; or where there is no old text, a new file; or where there is no new text, a file less."""
+    out = dict(files)
+    if new is None:
+        del out[name]
+    elif old is None:
+        out[name] = new
+    else:
+        assert out[name].count(old) == 1, "not one place for %s in %s" % (old, name)
+        out[name] = out[name].replace(old, new)
+    return out
+
+
+def sees(tool, name, old, new, words, files=SOUND):
+    """A test: a tool sees what is broken, and says these words of it."""
 
     def test(self):
-        self.assertEqual(SOUND[name].count(old), 1, "not one place for " + old)
-        status, said = run(tool, dict(SOUND, **{name: SOUND[name].replace(old, new)}))
+        status, said = run(tool, broken(files, name, old, new))
         self.assertEqual(status, 1, said)
         self.assertIn(words, said)
 
     return test
 
 
-def with_breaks(tool, breaks):
+def exits(tool, files):
+    """The exit status of a tool that is started as a program on a tree of these files."""
+    with tempfile.TemporaryDirectory() as root:
+        write(root, files)
+        return subprocess.run([sys.executable, "-S", "-B", os.path.join(TOOLS, tool), root], stdout=subprocess.DEVNULL, check=False).returncode
+
+
+def with_breaks(tool, breaks, files=SOUND):
     """A class decorator: a test for the sound tree, and one for each break (file, what stands there, what is put for it, a part of what the tool has to say)."""
 
     def added(cls):
-        setattr(cls, "test_sound", passes_sound(tool))
+        setattr(cls, "test_sound", passes_sound(tool, files))
         for k, given in enumerate(breaks):
-            setattr(cls, "test_break_%02d" % k, sees(tool, *given))
+            setattr(cls, "test_break_%02d" % k, sees(tool, *given, files))
         return cls
 
     return added

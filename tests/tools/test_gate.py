@@ -1,5 +1,6 @@
 """Does .ci/run fail where any of its parts fails, and end with the line of the prover's part? Does `make` run every check that there is?"""
 
+import glob
 import os
 import shutil
 import subprocess
@@ -65,8 +66,11 @@ class Gate(unittest.TestCase):
                 with self.subTest(tool):
                     self.assertTrue(os.path.exists(os.path.join(ROOT, "tests", "tools", "test_%s.py" % tool)))
 
-    def test_every_program_of_cases_is_run(self):
-        self.assertIn("target/bin/paths", commands("cases"))
+    def test_every_program_with_cases_is_run(self):
+        cases, runners = commands("cases"), glob.glob(os.path.join(ROOT, "tests", "*", "run_*.py"))
+        self.assertEqual(len(runners), cases.count("target/bin/"))
+        for path in runners:
+            self.assertIn("%s target/bin/%s\n" % (os.path.relpath(path, ROOT), os.path.basename(path)[4:-3]), cases)
 
 
 if __name__ == "__main__":

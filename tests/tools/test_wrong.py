@@ -5,7 +5,7 @@ import tempfile
 import unittest
 from unittest import mock
 
-from sound import LIB, SOUND, told, with_breaks, write
+from sound import LIB, SOUND, run, told, with_breaks, write
 
 THRICE, ZERO = "tests/wrong/small/thrice.edit", "crates/small/must-fail/zero.edit"
 
@@ -17,6 +17,8 @@ BREAKS = [
     (LIB, "// A place", "// New.\npub fn fresh(n: usize) -> usize\n{\n    n\n}\n\n// A place", "small::fresh: 0 wrong answers are named"),
     (THRICE, "small::double", "small::treble", "there is no public function small::treble"),
     (THRICE, "# a wrong answer\n", "", "it has to have the lines"),
+    (THRICE, "# a wrong answer\n", "# \n", "it has to have the lines"),
+    (THRICE, "in: double\nold:     n + n\nnew:     n + n + n", "old:     pub length: usize,\nnew:     pub length: u64,", "its old text stands in no function"),
     (THRICE, "src/lib.rt", "specs/Sums.antt", "it changes no source"),
     (THRICE, "src/lib.rt", "src/other.rt", "there is no src/other.rt"),
     (THRICE, "in: double", "in: treble", "there is not one function treble"),
@@ -77,6 +79,18 @@ class Wrong(unittest.TestCase):
                 self.assertIn(words, out)
                 self.assertTrue(out.endswith("0 passed, 1 failed\n"), out)
                 self.assertEqual(ended, 1)
+
+    def test_other_crate(self):
+        """A function is tried where it stands."""
+        _, said = run("wrong", dict(SOUND, **{"crates/other/src/lib.rt": SOUND[LIB].replace("pub fn", "fn"), "tests/wrong/other/thrice.edit": SOUND[THRICE]}))
+        self.assertIn("tests/wrong/other/thrice.edit: its function is of another crate", said)
+
+    def test_leaning(self):
+        """Of two edits at once, one whose function calls the other's is tried alone: its refusal may be that one's."""
+        said = NAMED % "returns" + (NAMED % "returns").replace("double", "tell").replace("not proved\n", "not proved; it calls small::double, which is not proved\n", 1)
+        _, out = tried(0, said, 1, ["--together", "small/thrice", "small/tell_zero"])
+        self.assertIn("NOT REFUSED", out)
+        self.assertTrue(out.endswith("1 passed, 1 failed\n"), out)
 
     def test_together(self):
         """Of two edits at once each has its own verdict."""

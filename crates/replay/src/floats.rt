@@ -1,7 +1,8 @@
-// The questions of f64 maps on a case of the list. Room for 8 indices and 16 links; a case that needs more is refused by 1 and so differs.
+// The questions of f64 maps on a case of the list, with room for 8 indices and 16 links: no case has more.
 use crate::ints;
 use crate::maps;
 use crate::same;
+use crate::same::Seen;
 use crate::words;
 use float::Cutoff;
 use table::Map;
@@ -10,48 +11,83 @@ const MINUS_ZERO: u64 = 0x8000_0000_0000_0000;
 
 const MINUS_ONE: u64 = 0xbff0_0000_0000_0000;
 
-// A cutoff by bits past those of +infinity: the list has -0.0, -1.0 and NaN.
-fn odd_limit(bits: u64) -> Cutoff {
+const NAN: u64 = 0x7ff8_0000_0000_0000;
+
+// A cutoff, and the place behind its words.
+struct Limit {
+    cutoff: Cutoff,
+    next: usize,
+}
+
+// A cutoff by bits past those of +infinity: the list has -0.0, -1.0 and one NaN.
+fn odd_limit_of(bits: u64, next: usize) -> Limit {
     if bits == MINUS_ZERO {
-        return Cutoff::At(-0.0);
+        return Limit {
+            cutoff: Cutoff::At(-0.0),
+            next: next,
+        };
     }
     if bits == MINUS_ONE {
-        return Cutoff::At(-1.0);
+        return Limit {
+            cutoff: Cutoff::At(-1.0),
+            next: next,
+        };
     }
-    Cutoff::At(0.0 / 0.0)
+    if bits == NAN {
+        return Limit {
+            cutoff: Cutoff::At(0.0 / 0.0),
+            next: next,
+        };
+    }
+    Limit {
+        cutoff: Cutoff::None,
+        next: words::LOST,
+    }
 }
 
 // A cutoff by its bits.
-fn limit(bits: u64) -> Cutoff {
+fn limit_of(bits: u64, next: usize) -> Limit {
     if float::bad_cost(bits) {
-        return odd_limit(bits);
+        return odd_limit_of(bits, next);
     }
-    Cutoff::At(f64::from_bits(bits))
+    Limit {
+        cutoff: Cutoff::At(f64::from_bits(bits)),
+        next: next,
+    }
 }
 
-// The cutoff of a case: 0 for none, else 1 and the bits.
-fn cutoff(capped: u64, bits: u64) -> Cutoff {
-    if capped == 0 {
-        return Cutoff::None;
+// The cutoff of a case: 0 and 0 for none, else 1 and the bits.
+fn read_cutoff(list: &[u8], at: usize) -> Limit {
+    let capped = words::whole(list, at, 1);
+    if capped.size == 0 {
+        return Limit {
+            cutoff: Cutoff::None,
+            next: words::whole(list, capped.next, 0).next,
+        };
     }
-    limit(bits)
+    let bits = words::bits(list, capped.next);
+    limit_of(bits.size, bits.next)
 }
 
-// Number, distances, predecessors.
-fn is_search_same(
+// Number, and after 0 the distances and the predecessors.
+fn see_search(
     number: usize,
     dist: &[u64],
     preds: &[u32],
     n: usize,
     list: &[u8],
     at: usize,
-) -> bool {
-    let given = same::count(number, list, at);
-    if number != 0 || !given.same {
-        return given.same;
+) -> Seen {
+    let given = same::number(list, at);
+    if given.size != 0 {
+        return same::refusal(number, given);
     }
     let totals = same::f64s(dist, n, list, given.next);
-    totals.same && same::u32s(preds, n, list, totals.next).same
+    let before = same::u32s(preds, n, list, totals.next);
+    Seen {
+        same: number == 0 && totals.same && before.same,
+        next: before.next,
+    }
 }
 
 // dijkstra_path_impl: source, cutoff; number, distances, predecessors.
@@ -64,10 +100,10 @@ fn path_impl(
     opens: &[u8],
     list: &[u8],
     at: usize,
-) -> bool {
-    let source = words::whole(list, at);
-    let capped = words::whole(list, source.next);
-    let most = words::bits(list, capped.next);
+) -> Seen {
+    let source = words::index(list, at);
+    let limit = read_cutoff(list, source.next);
+    let cutoff = limit.cutoff;
     let mut dist = [0u64; 8];
     let mut preds = [0u32; 8];
     let mut offsets = [0usize; 9];
@@ -83,8 +119,8 @@ fn path_impl(
         to,
         bits,
         opens,
-        words::as_usize(source.size),
-        cutoff(capped.size, most.size),
+        source.size as usize,
+        cutoff,
         &mut dist,
         &mut preds,
         &mut offsets,
@@ -94,7 +130,7 @@ fn path_impl(
         &mut places,
         &mut keys,
     );
-    is_search_same(number, &dist, &preds, map.bound, list, most.next)
+    see_search(number, &dist, &preds, map.bound, list, limit.next)
 }
 
 // dijkstra_path_f64: source, cutoff; number, distances, predecessors.
@@ -107,10 +143,10 @@ fn path_f64(
     opens: &[u8],
     list: &[u8],
     at: usize,
-) -> bool {
-    let source = words::whole(list, at);
-    let capped = words::whole(list, source.next);
-    let most = words::bits(list, capped.next);
+) -> Seen {
+    let source = words::index(list, at);
+    let limit = read_cutoff(list, source.next);
+    let cutoff = limit.cutoff;
     let mut dist = [0u64; 8];
     let mut preds = [0u32; 8];
     let mut offsets = [0usize; 9];
@@ -126,8 +162,8 @@ fn path_f64(
         to,
         bits,
         opens,
-        words::as_usize(source.size),
-        cutoff(capped.size, most.size),
+        source.size as usize,
+        cutoff,
         &mut dist,
         &mut preds,
         &mut offsets,
@@ -137,7 +173,7 @@ fn path_f64(
         &mut places,
         &mut keys,
     );
-    is_search_same(number, &dist, &preds, map.bound, list, most.next)
+    see_search(number, &dist, &preds, map.bound, list, limit.next)
 }
 
 // hops_f64: number, count of nodes, nodes, size of the matrix, matrix.
@@ -150,7 +186,7 @@ fn hops_f64(
     opens: &[u8],
     list: &[u8],
     at: usize,
-) -> bool {
+) -> Seen {
     let mut nodes = [0u32; 8];
     let mut matrix = [0u32; 64];
     let mut offsets = [0usize; 9];
@@ -171,10 +207,10 @@ fn hops_f64(
         &mut labels,
         &mut queue,
     );
-    ints::is_hops_same(counted, &nodes, &matrix, list, at)
+    ints::see_hops(counted, &nodes, &matrix, list, at)
 }
 
-// Is the answer to the question of this kind the list's?
+// Asks the question of this kind, 7 to 9.
 fn ask(
     map: Map,
     marks: &[u8],
@@ -184,22 +220,19 @@ fn ask(
     opens: &[u8],
     list: &[u8],
     at: usize,
-    kind: usize,
-) -> bool {
+    kind: u64,
+) -> Seen {
     if kind == 7 {
         return path_impl(map, marks, from, to, bits, opens, list, at);
     }
     if kind == 8 {
         return path_f64(map, marks, from, to, bits, opens, list, at);
     }
-    if kind == 9 {
-        return hops_f64(map, marks, from, to, bits, opens, list, at);
-    }
-    false
+    hops_f64(map, marks, from, to, bits, opens, list, at)
 }
 
 // Reads the case's map, puts its records, and asks.
-pub fn is_same(list: &[u8], at: usize, kind: usize) -> bool {
+pub fn replay(list: &[u8], at: usize, kind: u64) -> Seen {
     let mut marks = [0u8; 8];
     let mut from = [0u16; 16];
     let mut to = [0u16; 16];

@@ -1,16 +1,21 @@
-// The questions of integer maps on a case of the list. Room for 8 indices and 16 links; a case that needs more is refused by 1 and so differs.
+// The questions of integer maps on a case of the list, with room for 8 indices and 16 links: no case has more.
 use crate::maps;
 use crate::same;
+use crate::same::Seen;
 use crate::words;
 use table::Map;
 
-// The least totals, where 0 was given.
-fn is_dist_same(number: usize, dist: &[i64], n: usize, list: &[u8], at: usize) -> bool {
-    let given = same::count(number, list, at);
-    if number != 0 || !given.same {
-        return given.same;
+// Number, and after 0 the distances.
+fn see_distances(number: usize, dist: &[i64], n: usize, list: &[u8], at: usize) -> Seen {
+    let given = same::number(list, at);
+    if given.size != 0 {
+        return same::refusal(number, given);
     }
-    same::i64s(dist, n, list, given.next).same
+    let totals = same::i64s(dist, n, list, given.next);
+    Seen {
+        same: number == 0 && totals.same,
+        next: totals.next,
+    }
 }
 
 // dijkstra: source; number, distances.
@@ -22,8 +27,8 @@ fn dijkstra(
     costs: &[i32],
     list: &[u8],
     at: usize,
-) -> bool {
-    let source = words::whole(list, at);
+) -> Seen {
+    let source = words::index(list, at);
     let mut dist = [0i64; 8];
     let mut offsets = [0usize; 9];
     let mut heads = [0u16; 32];
@@ -38,7 +43,7 @@ fn dijkstra(
         from,
         to,
         costs,
-        words::as_usize(source.size),
+        source.size as usize,
         &mut dist,
         &mut offsets,
         &mut heads,
@@ -48,7 +53,7 @@ fn dijkstra(
         &mut places,
         &mut keys,
     );
-    is_dist_same(number, &dist, map.bound, list, source.next)
+    see_distances(number, &dist, map.bound, list, source.next)
 }
 
 // bellman_ford: source; number, distances.
@@ -60,8 +65,8 @@ fn bellman_ford(
     costs: &[i32],
     list: &[u8],
     at: usize,
-) -> bool {
-    let source = words::whole(list, at);
+) -> Seen {
+    let source = words::index(list, at);
     let mut dist = [0i64; 8];
     let mut offsets = [0usize; 9];
     let mut heads = [0u16; 32];
@@ -75,7 +80,7 @@ fn bellman_ford(
         from,
         to,
         costs,
-        words::as_usize(source.size),
+        source.size as usize,
         &mut dist,
         &mut offsets,
         &mut heads,
@@ -84,34 +89,42 @@ fn bellman_ford(
         &mut queued,
         &mut lengths,
     );
-    is_dist_same(number, &dist, map.bound, list, source.next)
+    see_distances(number, &dist, map.bound, list, source.next)
 }
 
 // The heuristic of m indices.
 fn read_guess(list: &[u8], at: usize, m: usize, guess: &mut [i64]) -> usize {
-    let mut place = at;
+    let mut next = at;
     let mut i: usize = 0;
     while i < guess.len() {
         if i >= m {
-            return place;
+            break;
         }
-        let word = words::whole(list, place);
-        guess[i] = words::as_i64(word.size, word.below);
-        place = word.next;
+        let word = words::signed(list, next);
+        let h = word.value;
+        guess[i] = h;
+        next = word.next;
         i += 1;
     }
-    place
+    next
 }
 
-// Number, cost, length and path.
-fn is_path_same(found: a_star::Reached, path: &[u32], n: usize, list: &[u8], at: usize) -> bool {
-    let number = same::count(found.number, list, at);
-    if found.number != 0 || !number.same {
-        return number.same;
+// Number, and after 0 the cost, the length and the path.
+fn see_path(found: a_star::Reached, path: &[u32], n: usize, list: &[u8], at: usize) -> Seen {
+    let given = same::number(list, at);
+    if given.size != 0 {
+        return same::refusal(found.number, given);
     }
-    let cost = same::cost(found.cost, list, number.next);
-    let length = same::count(found.length, list, cost.next);
-    cost.same && length.same && same::u32s(path, n, list, length.next).same
+    let cost = words::signed_or_none(list, given.next);
+    let length = words::index(list, cost.next);
+    let entries = same::u32s(path, n, list, length.next);
+    Seen {
+        same: found.number == 0
+            && found.cost == cost.value
+            && found.length as u64 == length.size
+            && entries.same,
+        next: entries.next,
+    }
 }
 
 // a_star: source, target, heuristic; number, cost, length, path.
@@ -123,9 +136,9 @@ fn a_star(
     costs: &[i32],
     list: &[u8],
     at: usize,
-) -> bool {
-    let source = words::whole(list, at);
-    let target = words::whole(list, source.next);
+) -> Seen {
+    let source = words::index(list, at);
+    let target = words::index(list, source.next);
     let mut guess = [0i64; 8];
     let next = read_guess(list, target.next, map.bound, &mut guess);
     let mut path = [0u32; 8];
@@ -143,8 +156,8 @@ fn a_star(
         from,
         to,
         costs,
-        words::as_usize(source.size),
-        words::as_usize(target.size),
+        source.size as usize,
+        target.size as usize,
         &guess,
         &mut path,
         &mut offsets,
@@ -156,17 +169,29 @@ fn a_star(
         &mut places,
         &mut keys,
     );
-    is_path_same(found, &path, map.bound, list, next)
+    see_path(found, &path, map.bound, list, next)
 }
 
-// Number, size of the matrix, and its entries.
-fn is_matrix_same(number: usize, matrix: &[i64], list: &[u8], at: usize) -> bool {
-    let given = same::count(number, list, at);
-    if number != 0 || !given.same {
-        return given.same;
+// Has a matrix of p rows so many entries?
+fn is_square(size: usize, p: usize) -> bool {
+    if p == 0 {
+        return size == 0;
     }
-    let size = words::whole(list, given.next);
-    same::i64s(matrix, words::as_usize(size.size), list, size.next).same
+    size / p == p && size % p == 0
+}
+
+// Number, and after 0 the size of the matrix and its entries.
+fn see_matrix(number: usize, matrix: &[i64], marks: &[u8], list: &[u8], at: usize) -> Seen {
+    let given = same::number(list, at);
+    if given.size != 0 {
+        return same::refusal(number, given);
+    }
+    let size = words::index(list, given.next);
+    let cells = same::i64s(matrix, size.size as usize, list, size.next);
+    Seen {
+        same: number == 0 && is_square(size.size as usize, maps::present(marks)) && cells.same,
+        next: cells.next,
+    }
 }
 
 // floyd_warshall: number, size of the matrix, matrix.
@@ -178,7 +203,7 @@ fn floyd_warshall(
     costs: &[i32],
     list: &[u8],
     at: usize,
-) -> bool {
+) -> Seen {
     let mut matrix = [0i64; 64];
     let mut ranks = [0usize; 8];
     let number = floyd_warshall::floyd_warshall(
@@ -190,7 +215,7 @@ fn floyd_warshall(
         &mut matrix,
         &mut ranks,
     );
-    is_matrix_same(number, &matrix, list, at)
+    see_matrix(number, &matrix, marks, list, at)
 }
 
 // johnson: number, size of the matrix, matrix.
@@ -202,7 +227,7 @@ fn johnson(
     costs: &[i32],
     list: &[u8],
     at: usize,
-) -> bool {
+) -> Seen {
     let mut matrix = [0i64; 64];
     let mut offsets = [0usize; 9];
     let mut heads = [0u16; 32];
@@ -230,23 +255,33 @@ fn johnson(
         &mut places,
         &mut keys,
     );
-    is_matrix_same(number, &matrix, list, at)
+    see_matrix(number, &matrix, marks, list, at)
 }
 
-// Number, count of nodes, nodes, size of the matrix, and its entries.
-pub fn is_hops_same(
+// Number, and after 0 the count of nodes, the nodes, the size of the matrix, and its entries.
+pub fn see_hops(
     counted: hops::Counted,
     nodes: &[u32],
     matrix: &[u32],
     list: &[u8],
     at: usize,
-) -> bool {
-    let number = same::count(counted.number, list, at);
-    let count = same::count(counted.count, list, number.next);
-    let named = same::u32s(nodes, counted.count, list, count.next);
-    let size = words::whole(list, named.next);
-    let cells = same::u32s(matrix, words::as_usize(size.size), list, size.next);
-    number.same && count.same && named.same && cells.same
+) -> Seen {
+    let given = same::number(list, at);
+    if given.size != 0 {
+        return same::refusal(counted.number, given);
+    }
+    let count = words::index(list, given.next);
+    let named = same::u32s(nodes, count.size as usize, list, count.next);
+    let size = words::index(list, named.next);
+    let cells = same::u32s(matrix, size.size as usize, list, size.next);
+    Seen {
+        same: counted.number == 0
+            && counted.count as u64 == count.size
+            && named.same
+            && is_square(size.size as usize, counted.count)
+            && cells.same,
+        next: cells.next,
+    }
 }
 
 // hops: number, count of nodes, nodes, size of the matrix, matrix.
@@ -258,7 +293,7 @@ fn hops(
     costs: &[i32],
     list: &[u8],
     at: usize,
-) -> bool {
+) -> Seen {
     let mut nodes = [0u32; 8];
     let mut matrix = [0u32; 64];
     let mut offsets = [0usize; 9];
@@ -278,10 +313,10 @@ fn hops(
         &mut labels,
         &mut queue,
     );
-    is_hops_same(counted, &nodes, &matrix, list, at)
+    see_hops(counted, &nodes, &matrix, list, at)
 }
 
-// Is the answer to the question of this kind the list's?
+// Asks the question of this kind, 1 to 6.
 fn ask(
     map: Map,
     marks: &[u8],
@@ -290,8 +325,8 @@ fn ask(
     costs: &[i32],
     list: &[u8],
     at: usize,
-    kind: usize,
-) -> bool {
+    kind: u64,
+) -> Seen {
     if kind == 1 {
         return dijkstra(map, marks, from, to, costs, list, at);
     }
@@ -307,14 +342,11 @@ fn ask(
     if kind == 5 {
         return johnson(map, marks, from, to, costs, list, at);
     }
-    if kind == 6 {
-        return hops(map, marks, from, to, costs, list, at);
-    }
-    false
+    hops(map, marks, from, to, costs, list, at)
 }
 
 // Reads the case's map, puts its records, and asks.
-pub fn is_same(list: &[u8], at: usize, kind: usize) -> bool {
+pub fn replay(list: &[u8], at: usize, kind: u64) -> Seen {
     let mut marks = [0u8; 8];
     let mut from = [0u16; 16];
     let mut to = [0u16; 16];

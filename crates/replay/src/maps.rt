@@ -1,6 +1,12 @@
-// The map of a case: directed or not, its bound, its marks, then its records, which are put one after the other.
+// The map of a case: directed or not, its bound, its marks, then its records, which are put one after the other. A record that is refused is lost.
 use crate::words;
 use table::Map;
+use table::PutDone;
+
+// The most indices and records of a case.
+const INDICES: u64 = 6;
+
+const RECORDS: u64 = 12;
 
 // The map, and the place behind it in the list.
 pub struct Read {
@@ -10,28 +16,59 @@ pub struct Read {
 
 // The marks of m indices.
 fn read_marks(list: &[u8], at: usize, m: usize, marks: &mut [u8]) -> usize {
-    let mut place = at;
+    let mut next = at;
     let mut i: usize = 0;
     while i < marks.len() {
         if i >= m {
-            return place;
+            break;
         }
-        let word = words::whole(list, place);
-        marks[i] = words::as_u8(word.size);
-        place = word.next;
+        let word = words::whole(list, next, 1);
+        marks[i] = word.size as u8;
+        next = word.next;
         i += 1;
     }
-    place
+    next
+}
+
+// How many indices are present.
+pub fn present(marks: &[u8]) -> usize {
+    let mut p: usize = 0;
+    let mut i: usize = 0;
+    while i < marks.len() {
+        if marks[i] != 0 {
+            p += 1;
+        }
+        i += 1;
+    }
+    p
 }
 
 // The map without its links.
 pub fn read_head(list: &[u8], at: usize, marks: &mut [u8]) -> Read {
-    let directed = words::whole(list, at);
-    let bound = words::whole(list, directed.next);
-    let m = words::as_usize(bound.size);
+    let directed = words::whole(list, at, 1);
+    let bound = words::whole(list, directed.next, INDICES);
+    let m = bound.size as usize;
     let next = read_marks(list, bound.next, m, marks);
     Read {
-        map: Map::empty(m, directed.size != 0),
+        map: Map::empty(m, directed.size == 1),
+        next: next,
+    }
+}
+
+// The map with a record put, if the put gives 0.
+fn taken(map: Map, done: PutDone, next: usize) -> Read {
+    if done.refusal != 0 {
+        return Read {
+            map: map,
+            next: words::LOST,
+        };
+    }
+    Read {
+        map: Map {
+            bound: map.bound,
+            count: done.count,
+            directed: map.directed,
+        },
         next: next,
     }
 }
@@ -46,27 +83,20 @@ fn put_record(
     list: &[u8],
     at: usize,
 ) -> Read {
-    let a = words::whole(list, at);
-    let b = words::whole(list, a.next);
-    let cost = words::whole(list, b.next);
+    let a = words::whole(list, at, 65535);
+    let b = words::whole(list, a.next, 65535);
+    let cost = words::cost(list, b.next);
     let done = table::put(
         map,
         marks,
         from,
         to,
         costs,
-        words::as_u16(a.size),
-        words::as_u16(b.size),
-        words::as_i32(cost.size, cost.below),
+        a.size as u16,
+        b.size as u16,
+        cost.value,
     );
-    Read {
-        map: Map {
-            bound: map.bound,
-            count: done.count,
-            directed: map.directed,
-        },
-        next: cost.next,
-    }
+    taken(map, done, cost.next)
 }
 
 // The records of an integer map, put.
@@ -79,36 +109,17 @@ pub fn put_records(
     list: &[u8],
     at: usize,
 ) -> Read {
-    let records = words::whole(list, at);
+    let records = words::whole(list, at, RECORDS);
     let mut left = records.size;
-    let mut place = records.next;
-    let mut count = map.count;
+    let mut read = Read {
+        map: map,
+        next: records.next,
+    };
     while left > 0 {
-        let read = put_record(
-            Map {
-                bound: map.bound,
-                count: count,
-                directed: map.directed,
-            },
-            marks,
-            from,
-            to,
-            costs,
-            list,
-            place,
-        );
-        count = read.map.count;
-        place = read.next;
+        read = put_record(read.map, marks, from, to, costs, list, read.next);
         left -= 1;
     }
-    Read {
-        map: Map {
-            bound: map.bound,
-            count: count,
-            directed: map.directed,
-        },
-        next: place,
-    }
+    read
 }
 
 // A record of an f64 map, put.
@@ -122,10 +133,10 @@ fn put_record_f64(
     list: &[u8],
     at: usize,
 ) -> Read {
-    let a = words::whole(list, at);
-    let b = words::whole(list, a.next);
+    let a = words::whole(list, at, 65535);
+    let b = words::whole(list, a.next, 65535);
     let cost = words::bits(list, b.next);
-    let open = words::whole(list, cost.next);
+    let open = words::whole(list, cost.next, 255);
     let done = table::put_f64(
         map,
         marks,
@@ -133,19 +144,12 @@ fn put_record_f64(
         to,
         bits,
         opens,
-        words::as_u16(a.size),
-        words::as_u16(b.size),
+        a.size as u16,
+        b.size as u16,
         cost.size,
-        words::as_u8(open.size),
+        open.size as u8,
     );
-    Read {
-        map: Map {
-            bound: map.bound,
-            count: done.count,
-            directed: map.directed,
-        },
-        next: open.next,
-    }
+    taken(map, done, open.next)
 }
 
 // The records of an f64 map, put.
@@ -159,35 +163,15 @@ pub fn put_records_f64(
     list: &[u8],
     at: usize,
 ) -> Read {
-    let records = words::whole(list, at);
+    let records = words::whole(list, at, RECORDS);
     let mut left = records.size;
-    let mut place = records.next;
-    let mut count = map.count;
+    let mut read = Read {
+        map: map,
+        next: records.next,
+    };
     while left > 0 {
-        let read = put_record_f64(
-            Map {
-                bound: map.bound,
-                count: count,
-                directed: map.directed,
-            },
-            marks,
-            from,
-            to,
-            bits,
-            opens,
-            list,
-            place,
-        );
-        count = read.map.count;
-        place = read.next;
+        read = put_record_f64(read.map, marks, from, to, bits, opens, list, read.next);
         left -= 1;
     }
-    Read {
-        map: Map {
-            bound: map.bound,
-            count: count,
-            directed: map.directed,
-        },
-        next: place,
-    }
+    read
 }

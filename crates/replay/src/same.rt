@@ -1,4 +1,4 @@
-// Are entries what the list says, one word for each? x in the list is none.
+// Are entries what the list says, one word for each?
 use crate::words;
 
 // The answer, and the place behind the words that were read.
@@ -7,113 +7,80 @@ pub struct Seen {
     pub next: usize,
 }
 
-// A number, a length or a count.
-pub fn count(got: usize, list: &[u8], at: usize) -> Seen {
-    let word = words::whole(list, at);
-    Seen {
-        same: words::as_usize(word.size) == got,
-        next: word.next,
-    }
+// The number of an answer, by the list.
+pub fn number(list: &[u8], at: usize) -> words::Word {
+    words::whole(list, at, 8)
 }
 
-// Is a total the word's?
-fn is_given(x: i64, word: words::Word) -> bool {
-    if word.none {
-        return x == clean::NONE_I64;
-    }
-    x == words::as_i64(word.size, word.below)
-}
-
-// A cost.
-pub fn cost(got: i64, list: &[u8], at: usize) -> Seen {
-    let word = words::whole(list, at);
+// An answer that is its number alone.
+pub fn refusal(got: usize, number: words::Word) -> Seen {
     Seen {
-        same: is_given(got, word),
-        next: word.next,
+        same: got as u64 == number.size,
+        next: number.next,
     }
 }
 
 // The first n of these: distances, or entries of a matrix.
 pub fn i64s(got: &[i64], n: usize, list: &[u8], at: usize) -> Seen {
     let mut same = true;
-    let mut place = at;
+    let mut next = at;
     let mut i: usize = 0;
     while i < got.len() {
         if i >= n {
-            return Seen {
-                same: same,
-                next: place,
-            };
+            break;
         }
-        let word = words::whole(list, place);
-        same = same & is_given(got[i], word);
-        place = word.next;
+        let word = words::signed_or_none(list, next);
+        same = same & (got[i] == word.value);
+        next = word.next;
         i += 1;
     }
     Seen {
-        same: same & (n <= got.len()),
-        next: place,
+        same: same,
+        next: next,
     }
 }
 
 // Is an index, or a count of hops, the word's?
-fn is_word(x: u32, word: words::Word) -> bool {
-    if word.none {
-        return x == clean::NONE_U32;
-    }
+fn is_index(x: u32, word: words::Word) -> bool {
     x as u64 == word.size
 }
 
 // The first n of these: predecessors, a path, nodes, or hops.
 pub fn u32s(got: &[u32], n: usize, list: &[u8], at: usize) -> Seen {
     let mut same = true;
-    let mut place = at;
+    let mut next = at;
     let mut i: usize = 0;
     while i < got.len() {
         if i >= n {
-            return Seen {
-                same: same,
-                next: place,
-            };
+            break;
         }
-        let word = words::whole(list, place);
-        same = same & is_word(got[i], word);
-        place = word.next;
+        let word = words::index_or_none(list, next);
+        same = same & is_index(got[i], word);
+        next = word.next;
         i += 1;
     }
     Seen {
-        same: same & (n <= got.len()),
-        next: place,
+        same: same,
+        next: next,
     }
-}
-
-// Has a distance the word's bits, or are both none?
-fn is_total(d: u64, word: words::Word) -> bool {
-    if d == clean::NONE_F64 {
-        return word.none;
-    }
-    !word.none && d == word.size
 }
 
 // The first n of these: distances of the f64 engine.
 pub fn f64s(got: &[u64], n: usize, list: &[u8], at: usize) -> Seen {
     let mut same = true;
-    let mut place = at;
+    let mut next = at;
     let mut i: usize = 0;
     while i < got.len() {
         if i >= n {
-            return Seen {
-                same: same,
-                next: place,
-            };
+            break;
         }
-        let word = words::bits(list, place);
-        same = same & is_total(got[i], word);
-        place = word.next;
+        let word = words::bits_or_none(list, next);
+        same = same & (got[i] == word.size);
+        next = word.next;
         i += 1;
     }
     Seen {
-        same: same & (n <= got.len()),
-        next: place,
+        same: same,
+        next: next,
     }
 }

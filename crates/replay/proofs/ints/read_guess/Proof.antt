@@ -8,10 +8,10 @@ use Rattle.replay.proofs.ints.read_guess.Statement.{statement}
 use Rattle.replay.proofs.ints.read_guess.Tie as tie
 
 abbrev Inv-loop : tie.InvT-loop
-Inv-loop list at m guess₀ place₀ i₀ guess place i = length guess ≡ length guess₀
+Inv-loop list at m guess₀ next₀ i₀ guess next i = length guess ≡ length guess₀
 
 abbrev μ-loop : tie.MeasureT-loop
-μ-loop list at m guess₀ place₀ i₀ guess place i = length guess₀ - i
+μ-loop list at m guess₀ next₀ i₀ guess next i = length guess₀ - i
 
 pub read-guess-spec : {M : Type 1} → statement M
 read-guess-spec =
@@ -20,10 +20,9 @@ read-guess-spec =
     Inv-loop
     μ-loop
     (λ c. search needs)
+    (λ c κs. search needs)
     (λ c. search needs)
     (λ c. search needs)
-    (λ c κs. search needs)
-    (λ c κs. search needs)
     (λ c. search needs)
     (λ c. search needs)
     (λ c. search needs)

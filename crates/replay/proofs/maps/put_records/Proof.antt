@@ -7,10 +7,10 @@ use Rattle.replay.proofs.maps.put_records.Statement.{statement}
 use Rattle.replay.proofs.maps.put_records.Tie as tie
 
 abbrev Inv-loop : tie.InvT-loop
-Inv-loop map marks from₀ to₀ costs₀ list at left₀ place₀ count₀ from to costs left place count = (length from ≡ length from₀) × (length to ≡ length to₀) × (length costs ≡ length costs₀)
+Inv-loop marks from₀ to₀ costs₀ list at left₀ read₀ from to costs left read = (length from ≡ length from₀) × (length to ≡ length to₀) × (length costs ≡ length costs₀)
 
 abbrev μ-loop : tie.MeasureT-loop
-μ-loop map marks from₀ to₀ costs₀ list at left₀ place₀ count₀ from to costs left place count = left
+μ-loop marks from₀ to₀ costs₀ list at left₀ read₀ from to costs left read = left
 
 pub put-records-spec : {M : Type 1} → statement M
 put-records-spec =

@@ -8,10 +8,10 @@ use Rattle.replay.proofs.maps.read_marks.Statement.{statement}
 use Rattle.replay.proofs.maps.read_marks.Tie as tie
 
 abbrev Inv-loop : tie.InvT-loop
-Inv-loop list at m marks₀ place₀ i₀ marks place i = length marks ≡ length marks₀
+Inv-loop list at m marks₀ next₀ i₀ marks next i = length marks ≡ length marks₀
 
 abbrev μ-loop : tie.MeasureT-loop
-μ-loop list at m marks₀ place₀ i₀ marks place i = length marks₀ - i
+μ-loop list at m marks₀ next₀ i₀ marks next i = length marks₀ - i
 
 pub read-marks-spec : {M : Type 1} → statement M
 read-marks-spec =
@@ -20,10 +20,10 @@ read-marks-spec =
     Inv-loop
     μ-loop
     (λ c. search needs)
+    (λ c κs. search needs)
     (λ c. search needs)
     (λ c. search needs)
-    (λ c κs. search needs)
-    (λ c κs. search needs)
+    (λ c. search needs)
     (λ c. search needs)
     (λ c. search needs)
     (λ c. search needs)

@@ -7,10 +7,10 @@ use Rattle.replay.proofs.same.u32s.Statement.{statement}
 use Rattle.replay.proofs.same.u32s.Tie as tie
 
 abbrev Inv-loop : tie.InvT-loop
-Inv-loop got n list at same₀ place₀ i₀ same place i = Unit {0}
+Inv-loop got n list at same₀ next₀ i₀ same next i = Unit {0}
 
 abbrev μ-loop : tie.MeasureT-loop
-μ-loop got n list at same₀ place₀ i₀ same place i = length got - i
+μ-loop got n list at same₀ next₀ i₀ same next i = length got - i
 
 pub u32s-spec : {M : Type 1} → statement M
 u32s-spec =
@@ -19,11 +19,11 @@ u32s-spec =
     Inv-loop
     μ-loop
     (λ c. search needs)
-    (λ c. search needs)
     (λ c κs. search needs)
     (λ c. search needs)
     (λ c. search needs)
     (λ c κs. search needs)
+    (λ c. search needs)
     (λ c. search needs)
     (λ c. search needs)
     (λ c. search needs)

@@ -1,19 +1,19 @@
--- `replay::words::decimal` is safe and ends. The places left fall; a size that is multiplied is far below its end.
+-- `replay::words::digits` is safe and ends. The places left fall.
 -- Assumes nothing.
 use borrow.Author.Needs.{needs}
 use Prim.Native.Nat.{_-_}
 use lib.ListN.{length}
-use Rattle.replay.proofs.words.decimal.Statement.{statement}
-use Rattle.replay.proofs.words.decimal.Tie as tie
+use Rattle.replay.proofs.words.digits.Statement.{statement}
+use Rattle.replay.proofs.words.digits.Tie as tie
 
 abbrev Inv-loop : tie.InvT-loop
-Inv-loop list at below i₀ size₀ i size = Unit {0}
+Inv-loop list at base size₀ i₀ size i = Unit {0}
 
 abbrev μ-loop : tie.MeasureT-loop
-μ-loop list at below i₀ size₀ i size = length list - i
+μ-loop list at base size₀ i₀ size i = length list - i
 
-pub decimal-spec : {M : Type 1} → statement M
-decimal-spec =
+pub digits-spec : {M : Type 1} → statement M
+digits-spec =
     tie.close
     (tie.spec
     Inv-loop
@@ -21,10 +21,12 @@ decimal-spec =
     (λ c. search needs)
     (λ c. search needs)
     (λ c κs. search needs)
+    (λ c κs. search needs)
+    (λ c. search needs)
+    (λ c κs. search needs)
     (λ c. search needs)
     (λ c. search needs)
     (λ c. search needs)
-    (λ c. search needs)
-    (λ c. search needs)
+    (λ c κs. search needs)
     (λ c. search needs)
     (λ c. search needs))

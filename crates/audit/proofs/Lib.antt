@@ -1,0 +1,4 @@
+pub mod Tables
+pub mod Feeds
+pub mod Paths
+pub mod Sheets
