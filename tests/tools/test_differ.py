@@ -208,7 +208,7 @@ class Differ(unittest.TestCase):
         """A run that does not end is another answer, and what it started is ended."""
         with tempfile.TemporaryDirectory() as place:
             started = os.path.join(place, "started")
-            status, said = tried(SOUND, ["small/zero"], "#!/bin/sh\nsleep 30 &\necho $! >>%s\nwait\n" % started, LIMIT=0.1)
+            status, said = tried(SOUND, ["small/zero"], "#!/bin/sh\nsleep 30 &\necho $! >>%s\nwait\n" % started, LIMIT=1)
             with open(started, encoding="utf-8") as f:
                 pids = [int(x) for x in f.read().split()]
         self.assertIn("zero.edit: the right answer is another: no end within", said)
