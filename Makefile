@@ -5,7 +5,7 @@
 # make compare: the proved functions against the original and slow plain models (oracle/README.md says what it needs).
 # make bench: speed beside the original and other libraries; writes docs/BENCH.md and docs/bench.svg.
 # make weaker: tries every listed weakening of a tool of tools/ on its unit tests, in some minutes; no part of the gate.
-# make wrong: tries every wrong answer of tests/wrong on the prover, in some eight minutes on two cores; no part of the gate.
+# make wrong: tries every wrong answer and wrong definition of tests/wrong on the prover, in some ten minutes on two cores; no part of the gate.
 .PHONY: run test quick audit test-tools differ weaker cases wrong test-doors test-c test-rust compare bench
 
 run:
@@ -23,7 +23,9 @@ audit:
 	tools/statements
 	tools/trace
 	tools/figures
+	tools/edges
 	tools/wrong --list
+	tools/columns
 	python3 tests/c/signatures.py
 
 wrong:
@@ -55,8 +57,8 @@ test-rust:
 	cd bindings/rust && cargo test --offline
 
 compare:
-	rt check paths sheets
-	python3 tests/mapfile/compare_program.py target/bin/sheets 100000
+	rt check paths mapcases
+	python3 tests/mapfile/compare_program.py target/bin/mapcases 100000
 	bash oracle/run
 
 bench:

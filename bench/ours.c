@@ -24,7 +24,7 @@ struct ours {
     double real[M];
     uint32_t preds[M], path[M], nodes[M], hops[M * M];
     size_t length, listed;
-    size_t offsets[M + 1], heap[M], places[M], queue[M + 1], queued[M], lengths[M], labels[M], ranks[M];
+    size_t offsets[M + 1], peaks[M], words[M], queue[M + 1], queued[M], lengths[M], labels[M], ranks[M];
     uint16_t heads[2 * N];
     int64_t weights[2 * N], keys[M], spare[M], heights[M];
     uint64_t patterns[2 * N];
@@ -35,7 +35,7 @@ struct ours {
 #define TABLE o->bound, o->count, o->directed, SLICE(o->marks), SLICE(o->from), SLICE(o->to)
 #define MAP TABLE, SLICE(o->costs)
 #define LIST SLICE(o->offsets), SLICE(o->heads), SLICE(o->weights)
-#define BAG SLICE(o->heap), SLICE(o->places), SLICE(o->keys)
+#define BAG SLICE(o->peaks), SLICE(o->words), SLICE(o->keys)
 
 /* A table of the map's links, every index present, every link open. */
 static void *build(const struct map *map) {
@@ -58,8 +58,8 @@ static void *build(const struct map *map) {
 /* The f64 search, with the cutoff if capped. */
 static size_t f64_search(struct ours *o, const struct query *query, uint8_t capped) {
     return dimetumble_dijkstra_path_f64(TABLE, SLICE(o->bits), SLICE(o->opens), query->source, capped, query->cutoff, SLICE(o->real),
-                                        SLICE(o->preds), SLICE(o->offsets), SLICE(o->heads), SLICE(o->patterns), SLICE(o->heap),
-                                        SLICE(o->places), SLICE(o->real_keys));
+                                        SLICE(o->preds), SLICE(o->offsets), SLICE(o->heads), SLICE(o->patterns), SLICE(o->peaks),
+                                        SLICE(o->words), SLICE(o->real_keys));
 }
 
 /* The record to put: a link of the table, sent again; or the last link, put into the table without it. */

@@ -97,7 +97,7 @@ size_t dimetumble_put_f64(
 
 /* The least totals from a source: dist[v] is the least total of a walk to v, none without a walk.
  * Gives 0, 1, 2, 3, or 6 exactly when an arc below zero leaves an index in reach of the source.
- * dist: bound entries. Scratch: offsets, heads, weights; preds, heap, places, keys of bound entries. */
+ * dist: bound entries. Scratch: offsets, heads, weights; preds, peaks, words, keys of bound entries. */
 size_t dimetumble_dijkstra(
     size_t bound, size_t count, uint8_t directed,
     const uint8_t *marks, size_t marks_len,
@@ -110,8 +110,8 @@ size_t dimetumble_dijkstra(
     uint16_t *heads, size_t heads_len,
     int64_t *weights, size_t weights_len,
     uint32_t *preds, size_t preds_len,
-    size_t *heap, size_t heap_len,
-    size_t *places, size_t places_len,
+    size_t *peaks, size_t peaks_len,
+    size_t *words, size_t words_len,
     int64_t *keys, size_t keys_len);
 
 /* A path from a source to a target, by a heuristic: guess[v] for each index v.
@@ -124,7 +124,7 @@ size_t dimetumble_dijkstra(
  * and 435 links took about 20 s, here and in graphina. Who takes heuristics from others should check them first, or limit
  * the time around the call.
  * Gives 0, 1, 2, 3, 4, 5, or 6 when an arc below zero is looked at. After a refusal *cost is none and *length 0.
- * guess, path: bound entries. Scratch: offsets, heads, weights; dist, preds, heap, places, keys of bound entries. */
+ * guess, path: bound entries. Scratch: offsets, heads, weights; dist, preds, peaks, words, keys of bound entries. */
 size_t dimetumble_a_star(
     size_t bound, size_t count, uint8_t directed,
     const uint8_t *marks, size_t marks_len,
@@ -140,8 +140,8 @@ size_t dimetumble_a_star(
     int64_t *weights, size_t weights_len,
     int64_t *dist, size_t dist_len,
     uint32_t *preds, size_t preds_len,
-    size_t *heap, size_t heap_len,
-    size_t *places, size_t places_len,
+    size_t *peaks, size_t peaks_len,
+    size_t *words, size_t words_len,
     int64_t *keys, size_t keys_len);
 
 /* Distances and predecessors from a source over the open arcs of an f64 map. With capped other than 0, totals above the
@@ -149,7 +149,7 @@ size_t dimetumble_a_star(
  * Gives 0, 1, 2, 3, or 6 when an open arc looked at has its sign bit set (-0.0 too) or is a NaN.
  * dist, preds: bound entries; the source's distance is 0.0 and its predecessor none. What is proved speaks of dist as the
  * 64-bit patterns of its doubles, in the same memory: an entry that is to stay as it was stays bit for bit, a NaN too.
- * Scratch: offsets, heads, weights; heap, places, keys of bound entries. */
+ * Scratch: offsets, heads, weights; peaks, words, keys of bound entries. */
 size_t dimetumble_dijkstra_path_impl(
     size_t bound, size_t count, uint8_t directed,
     const uint8_t *marks, size_t marks_len,
@@ -163,8 +163,8 @@ size_t dimetumble_dijkstra_path_impl(
     size_t *offsets, size_t offsets_len,
     uint16_t *heads, size_t heads_len,
     uint64_t *weights, size_t weights_len,
-    size_t *heap, size_t heap_len,
-    size_t *places, size_t places_len,
+    size_t *peaks, size_t peaks_len,
+    size_t *words, size_t words_len,
     uint64_t *keys, size_t keys_len);
 
 /* The same under its second name: the Rust has two functions, one given a closure and one the open links alone. */
@@ -181,8 +181,8 @@ size_t dimetumble_dijkstra_path_f64(
     size_t *offsets, size_t offsets_len,
     uint16_t *heads, size_t heads_len,
     uint64_t *weights, size_t weights_len,
-    size_t *heap, size_t heap_len,
-    size_t *places, size_t places_len,
+    size_t *peaks, size_t peaks_len,
+    size_t *words, size_t words_len,
     uint64_t *keys, size_t keys_len);
 
 /* The least totals from a source, of signed costs: dist[v] as in dimetumble_dijkstra. A source that the map has not gives 0
@@ -218,7 +218,7 @@ size_t dimetumble_floyd_warshall(
     size_t *ranks, size_t ranks_len);
 
 /* The same answer as dimetumble_floyd_warshall, by one search from each index: faster where links are few.
- * Scratch: offsets, heads, weights; heights, dist, preds, heap, places, keys of bound entries. */
+ * Scratch: offsets, heads, weights; heights, dist, preds, peaks, words, keys of bound entries. */
 size_t dimetumble_johnson(
     size_t bound, size_t count, uint8_t directed,
     const uint8_t *marks, size_t marks_len,
@@ -232,8 +232,8 @@ size_t dimetumble_johnson(
     int64_t *heights, size_t heights_len,
     int64_t *dist, size_t dist_len,
     uint32_t *preds, size_t preds_len,
-    size_t *heap, size_t heap_len,
-    size_t *places, size_t places_len,
+    size_t *peaks, size_t peaks_len,
+    size_t *words, size_t words_len,
     int64_t *keys, size_t keys_len);
 
 /* The least numbers of arcs between all pairs (all_pairs_shortest_path_length): nodes holds the p present indices in rising

@@ -33,10 +33,16 @@ class Function:
 
 
 def contract(text):
-    """The name of the result and the statement, of `λ r. ⌜ statement ⌝`; of another form, no name and all of it. Names are without « and »."""
-    text = re.sub("[«»]", "", text)
-    m = re.match(r"\s*λ\s*(\S+?)\.\s*⌜([^⌜⌝]*)⌝\s*$", text)
-    return (m.group(1), flat(m.group(2))) if m else ("_", flat(text))
+    """The name of the result and the statement, of `λ r. ⌜ statement ⌝`, with the values of the names that a `let` before it gives; of another form, no name
+    and all of it. Names are without « and »."""
+    text = flat(re.sub("[«»]", "", text))
+    m = re.match(r"λ (\S+?)\. ((?:let \S+ = [^⌜⌝]*? in )*)⌜([^⌜⌝]*)⌝$", text)
+    if not m:
+        return "_", text
+    statement = m.group(3).strip()
+    for name, value in reversed(re.findall(r"let (\S+) = (.*?) in (?=let |$)", m.group(2))):
+        statement = re.sub(r"(?<![^\s(])" + re.escape(name) + r"(?![^\s)])", lambda _: "(" + value + ")", statement)
+    return m.group(1), statement
 
 
 def closing(text, at):
@@ -148,6 +154,7 @@ def function_at(root, place, file, found, m, holders):
         stop = re.search(r"\b(requires|ensures|decreases)\b|\{", text[at:]).start()
         result = flat(text[at:at + stop])
         at += stop
+    head = [x for x in text[m.start():at].split("\n") if x.strip()]
     while True:
         word = re.match(r"\s*(requires|ensures|decreases)\s*\{", text[at:])
         if not word:
@@ -155,13 +162,13 @@ def function_at(root, place, file, found, m, holders):
         opened = at + word.end() - 1
         end = closing(text, opened)
         clauses.append((word.group(1), text[opened + 1:end]))
+        head.append(flat(text[at:end + 1]))
         at = end + 1
     owner = ""
     for i in re.finditer(r"(?m)^impl\b[^{]*?(\w+)(?:<[^>]*>)?\s*\{", text):
         if i.start() < m.start() < closing(text, i.end() - 1):
             owner = i.group(1) + "::"
     line = text.count("\n", 0, m.start()) + 1
-    head = [x for x in text[m.start():at].split("\n") if x.strip()]
     return Function(place + "::" + owner + m.group(1), os.path.relpath(file, root), line, params, result, clauses, head, found, holders)
 
 
@@ -211,6 +218,22 @@ class Definition:
         self.kind, self.lines, self.statement, self.parts, self.public = "", [], [], [], False
 
 
+# how a line begins that goes on from the one before it
+GOES_ON = re.compile(r"\s*(?:(?:[→×≡∙↔⊎≤<⊕⊖+*-]|&&)\s|[)\]}])")
+
+
+def whole_lines(lines):
+    """How many lines of antt there are where one that only goes on counts with the one before it, so that the count is the same however they are broken."""
+    count, opened, before = 0, 0, "where"
+    for line in lines:
+        deep, above = (len(x) - len(x.lstrip()) for x in (line, before))
+        within = not before.endswith((" in", "where")) and (deep == above + 4 or deep == above >= 4 and line.lstrip()[0] in "({")
+        count += not (opened > 0 or GOES_ON.match(line) or deep and before.endswith((" =", " :")) or within)
+        opened = max(0, opened + sum(map(line.count, "([{")) - sum(map(line.count, ")]}")))
+        before = line
+    return count
+
+
 def module_file(module):
     """The file, below crates/, that a module path names, with a mark for what a source declares."""
     m = re.match(r"Rattle·(\w+?)(?:·specs|·proofs)?\.(specs|proofs)\.(.+)$", module)
@@ -251,15 +274,20 @@ class File:
         self.scan()
 
     def scan(self):
-        around, current = [], None
+        around, current, head = [], None, ""
         for number, line in enumerate(self.text.split("\n"), 1):
             code = re.sub(r"\s*--\s.*$", "", line) if not line.strip().startswith("--") else ""
             if not code.strip() or re.match(r"(use|infix\w*|pub mod) ", code):
                 continue
+            # the head of a section may take several lines
+            code, head = head + code, ""
+            if re.match(r"\s*module\b", code) and not code.endswith(" where"):
+                head = code + "\n"
+                continue
             indent = len(code) - len(code.lstrip())
             while around and indent <= around[-1][0]:
                 around.pop()
-            if re.match(r"\s*module\b.*\bwhere$", code):
+            if re.match(r"\s*module\b", code):
                 around.append((indent, code))
                 current = None
                 continue
@@ -351,7 +379,7 @@ class Tree:
 # those that speak of now, the folder of those that tell what was, those that a tool makes
 NOW = (
     "README.md", "docs/AUDIT.md", "docs/BENCH.md", "docs/DECISIONS.md", "docs/DIFFERENCES.md", "docs/EXCEPTIONS.md", "docs/PROVING.md", "docs/SCRATCH.md",
-    "docs/SETTLED.md", "docs/TRACE.md", "examples/README.md", "oracle/README.md", "crates/replay/LIST.md",
+    "docs/SETTLED.md", "docs/TRACE.md", "docs/WORDS.md", "examples/README.md", "oracle/README.md", "crates/replay/LIST.md",
 )
 HISTORY = "docs/changes/"
 MADE = ("docs/STATEMENTS.md",)

@@ -19,7 +19,7 @@ static int32_t costs[ROOM];
 static size_t count = 0;
 
 /* Scratch, as long as a full table needs. What it holds does not matter. */
-static size_t offsets[DIMETUMBLE_OFFSETS(BOUND)], queue[BOUND], queued[BOUND], lengths[BOUND], heap[BOUND], places[BOUND];
+static size_t offsets[DIMETUMBLE_OFFSETS(BOUND)], queue[BOUND], queued[BOUND], lengths[BOUND], peaks[BOUND], words[BOUND];
 static uint16_t heads[DIMETUMBLE_ARCS(ROOM, DIRECTED)];
 static int64_t weights[DIMETUMBLE_ARCS(ROOM, DIRECTED)], reached[BOUND], keys[BOUND];
 static uint32_t preds[BOUND];
@@ -61,7 +61,7 @@ static void show_path(void)
     size_t length;
     size_t number = dimetumble_a_star(BOUND, count, DIRECTED, marks, BOUND, from, ROOM, to, ROOM, costs, ROOM, PROVIDER, CUSTOMER,
         guess, BOUND, &cost, &length, path, BOUND, offsets, BOUND + 1, heads, ROOM, weights, ROOM, reached, BOUND, preds, BOUND,
-        heap, BOUND, places, BOUND, keys, BOUND);
+        peaks, BOUND, words, BOUND, keys, BOUND);
     if (number != DIMETUMBLE_DONE) {
         printf("a_star: refused %zu\n", number);
         return;

@@ -39,7 +39,7 @@ static int64_t dist[N_EACH], weights[N_ARCS], heights[N_EACH], keys[N_EACH], rea
 static double dist64[N_EACH];
 static uint64_t keys64[N_EACH], weights64[N_ARCS];
 static uint32_t preds[N_EACH], path[N_EACH], nodes[N_EACH], hops[64 + PAST];
-static size_t offsets[N_EACH], heap[N_EACH], places[N_EACH], queue[N_EACH], queued[N_EACH], lengths[N_EACH], ranks[N_EACH], labels[N_EACH];
+static size_t offsets[N_EACH], peaks[N_EACH], words[N_EACH], queue[N_EACH], queued[N_EACH], lengths[N_EACH], ranks[N_EACH], labels[N_EACH];
 static uint16_t heads[N_ARCS];
 
 /* Every buffer, for what is said of all of them. */
@@ -49,8 +49,8 @@ static const struct {
 } buffers[] = {
     {dist, sizeof dist}, {weights, sizeof weights}, {heights, sizeof heights}, {keys, sizeof keys}, {reached, sizeof reached},
     {matrix, sizeof matrix}, {dist64, sizeof dist64}, {keys64, sizeof keys64}, {weights64, sizeof weights64}, {preds, sizeof preds},
-    {path, sizeof path}, {nodes, sizeof nodes}, {hops, sizeof hops}, {offsets, sizeof offsets}, {heap, sizeof heap},
-    {places, sizeof places}, {queue, sizeof queue}, {queued, sizeof queued}, {lengths, sizeof lengths}, {ranks, sizeof ranks},
+    {path, sizeof path}, {nodes, sizeof nodes}, {hops, sizeof hops}, {offsets, sizeof offsets}, {peaks, sizeof peaks},
+    {words, sizeof words}, {queue, sizeof queue}, {queued, sizeof queued}, {lengths, sizeof lengths}, {ranks, sizeof ranks},
     {labels, sizeof labels}, {heads, sizeof heads},
 };
 #define BUFFERS (sizeof buffers / sizeof buffers[0])
@@ -151,7 +151,7 @@ static void lay(uint16_t a, uint16_t b, int32_t cost)
 #define MAP bound, count, directed, marks, bound, from, LINKS, to, LINKS, costs, LINKS
 #define MAP64 bound, count, directed, marks, bound, from, LINKS, to, LINKS, bits, LINKS, opens, LINKS
 #define ROWS offsets, N_EACH, heads, N_ARCS, weights, N_ARCS
-#define MEMORY preds, N_EACH, heap, N_EACH, places, N_EACH, keys, N_EACH
+#define MEMORY preds, N_EACH, peaks, N_EACH, words, N_EACH, keys, N_EACH
 
 static size_t ask_dijkstra(size_t source)
 {
@@ -175,13 +175,13 @@ static size_t ask_a_star(size_t source, size_t target, const int64_t *guess, siz
 static size_t ask_path(size_t source, uint8_t capped, double cutoff)
 {
     return dimetumble_dijkstra_path_impl(MAP64, source, capped, cutoff, dist64, N_EACH, preds, N_EACH, offsets, N_EACH, heads, N_ARCS,
-        weights64, N_ARCS, heap, N_EACH, places, N_EACH, keys64, N_EACH);
+        weights64, N_ARCS, peaks, N_EACH, words, N_EACH, keys64, N_EACH);
 }
 
 static size_t ask_path_f64(size_t source, uint8_t capped, double cutoff)
 {
     return dimetumble_dijkstra_path_f64(MAP64, source, capped, cutoff, dist64, N_EACH, preds, N_EACH, offsets, N_EACH, heads, N_ARCS,
-        weights64, N_ARCS, heap, N_EACH, places, N_EACH, keys64, N_EACH);
+        weights64, N_ARCS, peaks, N_EACH, words, N_EACH, keys64, N_EACH);
 }
 
 static size_t ask_floyd_warshall(size_t entries)
@@ -224,8 +224,8 @@ static void wiped_rows(void)
 
 static void wiped_bag(void)
 {
-    WIPED(heap, bound);
-    WIPED(places, bound);
+    WIPED(peaks, bound);
+    WIPED(words, bound);
     WIPED(keys, bound);
 }
 
@@ -342,20 +342,20 @@ static void dijkstra(void)
     HOLDS(dimetumble_dijkstra(MAP, 0, dist, 2, offsets, 2, heads, 1, weights, 1, MEMORY) == 1);
     HOLDS(dimetumble_dijkstra(MAP, 0, dist, 2, offsets, 3, heads, 0, weights, 1, MEMORY) == 1);
     HOLDS(dimetumble_dijkstra(MAP, 0, dist, 2, offsets, 3, heads, 1, weights, 0, MEMORY) == 1);
-    HOLDS(dimetumble_dijkstra(MAP, 0, dist, 2, ROWS, preds, 1, heap, 2, places, 2, keys, 2) == 1);
-    HOLDS(dimetumble_dijkstra(MAP, 0, dist, 2, ROWS, preds, 2, heap, 1, places, 2, keys, 2) == 1);
-    HOLDS(dimetumble_dijkstra(MAP, 0, dist, 2, ROWS, preds, 2, heap, 2, places, 1, keys, 2) == 1);
-    HOLDS(dimetumble_dijkstra(MAP, 0, dist, 2, ROWS, preds, 2, heap, 2, places, 2, keys, 1) == 1);
+    HOLDS(dimetumble_dijkstra(MAP, 0, dist, 2, ROWS, preds, 1, peaks, 2, words, 2, keys, 2) == 1);
+    HOLDS(dimetumble_dijkstra(MAP, 0, dist, 2, ROWS, preds, 2, peaks, 1, words, 2, keys, 2) == 1);
+    HOLDS(dimetumble_dijkstra(MAP, 0, dist, 2, ROWS, preds, 2, peaks, 2, words, 1, keys, 2) == 1);
+    HOLDS(dimetumble_dijkstra(MAP, 0, dist, 2, ROWS, preds, 2, peaks, 2, words, 2, keys, 1) == 1);
     HOLDS(untouched());
     /* just what is needed is enough */
-    HOLDS(dimetumble_dijkstra(MAP, 0, dist, 2, offsets, 3, heads, 1, weights, 1, preds, 2, heap, 2, places, 2, keys, 2) == 0);
+    HOLDS(dimetumble_dijkstra(MAP, 0, dist, 2, offsets, 3, heads, 1, weights, 1, preds, 2, peaks, 2, words, 2, keys, 2) == 0);
     DISTANCES(0, 5);
     /* nothing lent but the one offset that is always needed */
     HOLDS(dimetumble_dijkstra(0, 0, 1, NULL, 0, NULL, 0, NULL, 0, NULL, 0, 0, NULL, 0, offsets, 1, NULL, 0, NULL, 0, NULL, 0, NULL, 0, NULL, 0, NULL, 0) == 3);
     HOLDS(dimetumble_dijkstra(0, 0, 1, NULL, 0, NULL, 0, NULL, 0, NULL, 0, 0, NULL, 0, NULL, 0, NULL, 0, NULL, 0, NULL, 0, NULL, 0, NULL, 0, NULL, 0) == 1);
     /* an index and no links: heads and weights may be NULL */
     begin(1, 0);
-    HOLDS(dimetumble_dijkstra(1, 0, 0, marks, 1, NULL, 0, NULL, 0, NULL, 0, 0, dist, 1, offsets, 2, NULL, 0, NULL, 0, preds, 1, heap, 1, places, 1, keys, 1) == 0);
+    HOLDS(dimetumble_dijkstra(1, 0, 0, marks, 1, NULL, 0, NULL, 0, NULL, 0, 0, dist, 1, offsets, 2, NULL, 0, NULL, 0, preds, 1, peaks, 1, words, 1, keys, 1) == 0);
     DISTANCES(0);
     /* m 1,024: the last index */
     begin(1024, 0);
@@ -502,8 +502,8 @@ static void wiped_f64(void)
     WIPED(offsets, DIMETUMBLE_OFFSETS(bound));
     WIPED(heads, DIMETUMBLE_ARCS(count, directed));
     WIPED(weights64, DIMETUMBLE_ARCS(count, directed));
-    WIPED(heap, bound);
-    WIPED(places, bound);
+    WIPED(peaks, bound);
+    WIPED(words, bound);
     WIPED(keys64, bound);
 }
 
@@ -586,12 +586,12 @@ static void dijkstra_paths(void)
     dijkstra_path(ask_path_f64);
     begin(2, 1);
     put64(0, 1, 1.0, 1);
-    HOLDS(dimetumble_dijkstra_path_impl(MAP64, 0, 0, 0.0, dist64, 1, preds, 2, offsets, 3, heads, 1, weights64, 1, heap, 2, places, 2, keys64, 2) == 1);
-    HOLDS(dimetumble_dijkstra_path_impl(MAP64, 0, 0, 0.0, dist64, 2, preds, 1, offsets, 3, heads, 1, weights64, 1, heap, 2, places, 2, keys64, 2) == 1);
-    HOLDS(dimetumble_dijkstra_path_impl(MAP64, 0, 0, 0.0, dist64, 2, preds, 2, offsets, 3, heads, 1, weights64, 0, heap, 2, places, 2, keys64, 2) == 1);
-    HOLDS(dimetumble_dijkstra_path_impl(MAP64, 0, 0, 0.0, dist64, 2, preds, 2, offsets, 3, heads, 1, weights64, 1, heap, 2, places, 2, keys64, 1) == 1);
+    HOLDS(dimetumble_dijkstra_path_impl(MAP64, 0, 0, 0.0, dist64, 1, preds, 2, offsets, 3, heads, 1, weights64, 1, peaks, 2, words, 2, keys64, 2) == 1);
+    HOLDS(dimetumble_dijkstra_path_impl(MAP64, 0, 0, 0.0, dist64, 2, preds, 1, offsets, 3, heads, 1, weights64, 1, peaks, 2, words, 2, keys64, 2) == 1);
+    HOLDS(dimetumble_dijkstra_path_impl(MAP64, 0, 0, 0.0, dist64, 2, preds, 2, offsets, 3, heads, 1, weights64, 0, peaks, 2, words, 2, keys64, 2) == 1);
+    HOLDS(dimetumble_dijkstra_path_impl(MAP64, 0, 0, 0.0, dist64, 2, preds, 2, offsets, 3, heads, 1, weights64, 1, peaks, 2, words, 2, keys64, 1) == 1);
     HOLDS(untouched());
-    HOLDS(dimetumble_dijkstra_path_impl(MAP64, 0, 0, 0.0, dist64, 2, preds, 2, offsets, 3, heads, 1, weights64, 1, heap, 2, places, 2, keys64, 2) == 0);
+    HOLDS(dimetumble_dijkstra_path_impl(MAP64, 0, 0, 0.0, dist64, 2, preds, 2, offsets, 3, heads, 1, weights64, 1, peaks, 2, words, 2, keys64, 2) == 0);
     DISTANCES64(0.0, 1.0);
     HOLDS(dimetumble_dijkstra_path_impl(0, 0, 1, NULL, 0, NULL, 0, NULL, 0, NULL, 0, NULL, 0, 0, 0, 0.0, NULL, 0, NULL, 0, offsets, 1, NULL, 0, NULL, 0,
               NULL, 0, NULL, 0, NULL, 0) == 3);

@@ -1,8 +1,8 @@
-"""Runs random map files through the program `sheets` and holds each sheet to the model's.
+"""Runs random map files through the program `mapcases` and holds each sheet to the model's.
 
     python3 tests/mapfile/compare_program.py PROGRAM [COUNT [SEED]]
 
-PROGRAM is target/bin/sheets once it is proved. The last line is `N passed, M failed`; the exit status is 1 if some failed or none ran.
+PROGRAM is target/bin/mapcases once it is proved. The last line is `N passed, M failed`; the exit status is 1 if some failed or none ran.
 """
 
 import collections

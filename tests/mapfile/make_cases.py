@@ -1,4 +1,4 @@
-"""Makes what the program `sheets` reads and has to print, and the packed examples with their sheets.
+"""Makes what the program `mapcases` reads and has to print, and the packed examples with their sheets.
 
     python3 tests/mapfile/make_cases.py
 
@@ -15,7 +15,7 @@ import sheet_model
 
 HERE = pathlib.Path(__file__).resolve().parent
 ROOT = HERE.parent.parent
-PROGRAM = ROOT / "crates" / "sheets"
+PROGRAM = ROOT / "crates" / "mapcases"
 EXAMPLES = ROOT / "examples" / "maps"
 
 

@@ -148,6 +148,7 @@ SOUND.update({
     "tests/wrong/small/short.edit": edit("count", "count", "length: n + n", "length: n", ("n = 3", "result.length = 6", "result.length = 3")),
     "tests/wrong/small/some_one.edit": edit("somewhere", "somewhere", "= 0;", "= 1;", ("out = [5, 5]", "out = 0 5", "out = 1 5")),
     "tests/wrong/small/some_two.edit": edit("somewhere", "somewhere", "= 0;", "= 2;", ("out = [5; 9]", "out = 0 5 ..", "out = 2 5 ..")),
+    "tests/wrong/small/twice_once.edit": "# definition: small::twice\n# a wrong definition\nfile: specs/Sums.antt\nold: twice n = n + n\nnew: twice n = n\n",
     "crates/small/must-fail/zero.edit": edit("count", "", "number: n,", "number: 0,", ("n = 3", "result.number = 3", "result.number = 0")),
 })
 

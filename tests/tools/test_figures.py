@@ -95,7 +95,7 @@ SCRATCH = """# Scratch
 
 | Question | offsets | heads | weights | others | Sum | Theorem |
 |---|---|---|---|---|---|---|
-| `dijkstra` | m+1 | a | a | preds, heap: m each; queue: m+1 | 4m + 2 + 2a | `x` |
+| `dijkstra` | m+1 | a | a | preds, peaks: m each; queue: m+1 | 4m + 2 + 2a | `x` |
 | page check | - | - | - | none | 0 | - |
 """
 
@@ -109,6 +109,7 @@ TREE = {
     "docs/AUDIT.md": "# Audit\n\n| together | 1276 |\n",
     "docs/EXCEPTIONS.md": "# Exceptions\n",
     "docs/PROVING.md": "# Proving\n",
+    "docs/WORDS.md": "# Words\n",
     "docs/SETTLED.md": "# Settled\n",
     "docs/changes/old.md": "# Old\n\nThe bound over 1,000 and 77,777.\n",
     "oracle/README.md": "# Oracle\n",
@@ -120,11 +121,11 @@ TREE = {
     "examples/maps/one.sheet": "engine 1\nend\n",
     "examples/maps/two.txt": "map 2\n",
     "crates/table/src/lib.rt": "// const INDICES: usize = 1;\n    pub const INDICES: usize = 2048;\n    pub const LINKS: usize = 4096;\n",
-    "crates/sheet/src/lib.rt": "pub const LIMIT: usize = 4000;\npub const ROOM: usize = 5000;\n",
+    "crates/sheet/src/lib.rt": "pub const LIMIT: usize = 4000;\npub const OUTPUT: usize = 5000;\n",
     "crates/sheet/specs/Sheet.antt": "readFile file = loaded 16384 file (zeros 64) (zeros 512) (zerosI 512)\n",
-    "crates/answers/specs/Room.antt": "most = 4900\n",
+    "crates/answers/specs/Output.antt": "most = 4900\n",
     "crates/answers/specs/Answers.antt": "a (zeros 64) (zerosI 65) (zeros 1024) (zerosI 4096) (zeros 64)\n",
-    "crates/small_maps/specs/Small.antt": "  pub s1 : A\n  pub s2-one : B\n  pub s2-two : B\n  pub s3 : C\n",
+    "crates/promises/specs/Small.antt": "  pub s1 : A\n  pub s2-one : B\n  pub s2-two : B\n  pub s3 : C\n",
     "bindings/rust/src/native.rs": "// unsafe { }\nunsafe { call() }\n",
     "tests/c/signatures.py": "DOUBLES = {('dimetumble_a', 'dist'), ('dimetumble_b', 'dist')}\n",
     "crates/clean/src/lib.rt": "pub const NONE_I64: i64 = -9223372036854775808;\npub const NONE_U32: u32 = 4294967295;\n",
@@ -133,7 +134,7 @@ TREE = {
     "crates/bag/specs/Ints.antt": "  pub up : P k < 2 ^ 53\nwordOf k v = (2 ^ 53 + N k - P k) * 1024 + (1023 - v)\n",
     "crates/bag/specs/Floats.antt": "rankOf k = 2 ^ 63 - k\n",
     "crates/floyd_warshall/src/lib.rt": "const BLOCK: usize = 16;\nconst SMALL: usize = 4;\n",
-    "crates/promises/proofs/Scratch.antt": "  x ≤ 8 * (g .bound + 1) + 4 * sizeOf g\n  y ≤ 8 * (g .bound + 1) + 4 * sizeOf g\n",
+    "crates/promises/proofs/Scratch.antt": "  x ≤ 8 * (g .bound + 1) + 4 * mostArcsOf g\n  y ≤ 8 * (g .bound + 1) + 4 * mostArcsOf g\n",
 }
 
 # every figure of a phrase, each made another: the document, the words around it, with the wrong figure between braces
@@ -168,7 +169,7 @@ BREAKS = [
     ("crates/table/src/lib.rt", "    pub const LINKS", "    const INDICES: usize = 2047;\n    pub const LINKS", "but there are 0, 4096"),
     ("crates/replay/stdin", "5 0 0 0 6\n", "5 0 0 0 6\n5 0 0 0 6\n", "one cases for each question, but there are 0"),
     ("crates/answers/specs/Answers.antt", "(zeros 64)\n", "(zeros 66)\n", "but there are 0, 0, 0, 0"),
-    ("crates/small_maps/specs/Small.antt", "s3 :", "s4 :", "S1 to S3, but there are 0"),
+    ("crates/promises/specs/Small.antt", "s3 :", "s4 :", "S1 to S3, but there are 0"),
     ("examples/README.md", "| `two` | two |\n", "", "two such maps, but there are 0"),
     ("examples/maps/three.txt", None, "map 3\n", "two such maps, but there are 0"),
     ("docs/DIFFERENCES.md", "| 700 |", "| 701 |", "but there are 1600, 50, 701"),
@@ -188,7 +189,7 @@ BREAKS = [
     ("README.md", "0.59 (plain C) |\n", "0.59 (plain C) |\n| dijkstra | 1,077 | 196 | 0.39 | 0.38 | 0.59 (plain C) |\n", "has no such row: dijkstra"),
     ("docs/SCRATCH.md", "4m + 2 + 2a", "4m + 2 + a", "`dijkstra`: the sum is not 4m + 2 + a"),
     ("docs/SCRATCH.md", "4m + 2 + 2a", "4m + 1 + 2a", "`dijkstra`: the sum is not 4m + 1 + 2a"),
-    ("docs/SCRATCH.md", "preds, heap: m", "preds, heap, places: m", "`dijkstra`: the sum is not 4m + 2 + 2a"),
+    ("docs/SCRATCH.md", "preds, peaks: m", "preds, peaks, words: m", "`dijkstra`: the sum is not 4m + 2 + 2a"),
     ("docs/SCRATCH.md", "queue: m+1", "queue: m", "`dijkstra`: the sum is not 4m + 2 + 2a"),
     ("docs/SCRATCH.md", "| m+1 | a | a |", "| m+1 | a | - |", "`dijkstra`: the sum is not 4m + 2 + 2a"),
     ("docs/SCRATCH.md", "| none | 0 |", "| none | m |", "page check: the sum is not m"),

@@ -56,6 +56,17 @@ pub fn leave(out: &mut [u8], rest: &mut [u8], n: usize) -> Pair
     Pair { first: n, second: n }
 }
 
+pub fn leave_named(out: &mut [u8], rest: &mut [u8], n: usize) -> Pair
+    ensures { λ r.
+        let before = now (out .entry) in
+        let lent = keptOf before n (now (rest .entry)) in
+        let left = keptOf (now (out .exit)) (r .first)
+        (now (rest .exit)) in
+        ⌜ Left n lent left (r .second) ⌝ }
+{
+    Pair { first: n, second: n }
+}
+
 pub fn part<'a>(list: &'a [u8], pair: Pair) -> &'a [u8]
     ensures { λ r. ⌜ now r ≡ now (list .entry) ⌝ }
 {
@@ -151,6 +162,7 @@ left-one p q = p
 | `more::tell_again` | `more/proofs/Ones.antt` `again-one` |
 | `more::byte` | `more/proofs/Ones.antt` `byte-one` |
 | `more::leave` | `more/proofs/Ones.antt` `left-one` |
+| `more::leave_named` | `more/proofs/Ones.antt` `left-one` |
 """,
 })
 
@@ -294,6 +306,10 @@ OTHERS = [
     (SUMS, "packed x n l = record { number = x; length = n; out = l }", "packed x n l = record { number = x; length = n; out = l } .out", "small::count is not settled"),
     (SUMS, "packed x n l = record { number = x; length = n; out = l }", "packed x n l = counted x n l", "small::count is not settled"),
     (SUMS, "packed x n l = record { number = x; length = n; out = l }", "packed x n [] = record { number = 0; length = 0; out = [] }\npacked x n l = record { number = x; length = n; out = l }", "small::count is not settled"),
+    # a record that a `let` names is held to the same
+    (MORE, "        (now (rest .exit)) in\n", "        (now (rest .entry)) in\n", "more::leave_named is not settled by left-one"),
+    (MORE, "⌜ Left n lent left (r .second) ⌝", "⌜ Left n lent lent (r .second) ⌝", "more::leave_named is not settled by left-one"),
+    (MORE, "let left = keptOf (now (out .exit)) (r .first)\n", "let left = more (now (out .exit)) (r .first)\n", "more::leave_named is not settled by left-one"),
     (SPECS, "rest = restOf n l", "rest = twice n l", "more::leave is not settled by left-one: the contract has keptOf"),
     (SPECS, "    list = l\n", "    list = []\n", "more::leave is not settled by left-one: the contract has keptOf"),
     (MORE, "(keptOf (now (out .entry)) n (now (rest .entry)))", "(keptOf (now (out .exit)) n (now (rest .entry)))", "where both outcomes of left-one have b"),
@@ -301,7 +317,7 @@ OTHERS = [
     (MORE, "(keptOf (now (out .exit)) (r .first) (now (rest .exit)))", "(keptOf (now (out .exit)) (r .second) (now (rest .exit)))", "left-one does not speak of the result"),
     (MORE, "(keptOf (now (out .exit)) (r .first) (now (rest .exit)))", "(keptOf (now (out .exit)) (r .first) (now (out .exit)))", "left-one does not speak of rest"),
     (MORE, "(keptOf (now (out .exit)) (r .first) (now (rest .exit))) (r .second) ⌝", "(keptOf (now (out .exit)) (twice (r .first)) (now (rest .exit))) r ⌝", "where left-one has the outcome e"),
-    (MORE, "(r .second) ⌝", "(r .second .first) ⌝", "where left-one has the outcome r"),
+    (MORE, "(now (rest .exit))) (r .second) ⌝", "(now (rest .exit))) (r .second .first) ⌝", "where left-one has the outcome r"),
     (MORE, "× (now (yes .exit) ≤ 1) ⌝", "⌝", "the contract does not say Told n b x (isSet y), of which byte-one speaks"),
     (MORE, "(now (yes .exit) ≤ 1) ⌝", "(now (yes .exit) ≤ 2) ⌝", "the contract does not say Told n b x (isSet y), of which byte-one speaks"),
     (MORE, "(now (yes .exit) ≤ 1) ⌝", "(now (out .exit) ≤ 1) ⌝", "the contract does not say Told n b x (isSet y), of which byte-one speaks"),
@@ -364,6 +380,7 @@ more::byte law byte-one in more/proofs/Ones.antt
 more::deep::same equation
 more::deep::two::two equation
 more::leave law left-one in more/proofs/Ones.antt
+more::leave_named law left-one in more/proofs/Ones.antt
 more::part equation
 more::tell_again law again-one in more/proofs/Ones.antt
 more::write law written-one in more/proofs/Ones.antt, text-one in more/proofs/Ones.antt
@@ -372,7 +389,7 @@ small::count equation
 small::double equation
 small::somewhere exception
 small::tell law told-one in small/proofs/One.antt
-settled: 13 public functions in 3 crates: 6 by equation, 6 by a law, 1 exceptions; 1 with a `requires`; 0 wrong
+settled: 14 public functions in 3 crates: 6 by equation, 7 by a law, 1 exceptions; 1 with a `requires`; 0 wrong
 """.split("\n")
 
 BREAKS = OTHERS

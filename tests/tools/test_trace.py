@@ -92,6 +92,7 @@ fn walk<T>(mut from: &[T], to: u8) -> &'static [u8] {
     "docs/DECISIONS.md": "# Decisions\n\n| Question | Decision |\n|---|---|\n| `small/proofs/One.antt` | `double` |\n",
     "docs/DIFFERENCES.md": "# Differences\n",
     "docs/PROVING.md": "# Proving\n",
+    "docs/WORDS.md": "# Words\n",
     "oracle/README.md": "# Oracle\n",
     "crates/replay/LIST.md": "# List\n",
 })
@@ -199,7 +200,7 @@ BREAKS = [
     ("docs/changes/first.md", "`small/src/lib.rt`", "`small/src/new.rt`", "docs/changes/first.md:3: no file small/src/new.rt"),
 ] + [(path, None, "`nobody`\n", path + ":1: nobody is defined nowhere") for path in (
     "README.md", "docs/AUDIT.md", "docs/BENCH.md", "docs/DECISIONS.md", "docs/DIFFERENCES.md", "docs/EXCEPTIONS.md", "docs/PROVING.md", "docs/SCRATCH.md",
-    "docs/SETTLED.md", "docs/TRACE.md", "examples/README.md", "oracle/README.md", "crates/replay/LIST.md",
+    "docs/SETTLED.md", "docs/TRACE.md", "docs/WORDS.md", "examples/README.md", "oracle/README.md", "crates/replay/LIST.md",
 )] + [("docs/DIFFERENCES.md", "", None, "docs/DIFFERENCES.md is missing")]
 
 

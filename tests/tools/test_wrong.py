@@ -1,13 +1,14 @@
-"""Does tools/wrong see a list of wrong answers that is not whole, an edit that does not fit, and a program that the prover does not refuse for its answer?"""
+"""Does tools/wrong see a list of wrong answers that is not whole, an edit that does not fit, and a program or a definition that the prover does not refuse for what is wrong?"""
 
 import os
 import tempfile
 import unittest
+from types import SimpleNamespace
 from unittest import mock
 
-from sound import LIB, SOUND, run, told, with_breaks, write
+from sound import LIB, SOUND, loaded, run, told, with_breaks, write
 
-THRICE, ZERO = "tests/wrong/small/thrice.edit", "crates/small/must-fail/zero.edit"
+THRICE, TWICE, ZERO = "tests/wrong/small/thrice.edit", "tests/wrong/small/twice_once.edit", "crates/small/must-fail/zero.edit"
 
 BREAKS = [
     (ZERO, "# function: small::count\n", "", "small::count: 1 wrong answers are named"),
@@ -26,6 +27,17 @@ BREAKS = [
     (THRICE, "old:     n + n", "old: n", "its old text stands"),
     (THRICE, "new:     n + n + n", "new:     n + n", "it changes nothing"),
     (THRICE, "new:     n + n + n", "new:     n", "the same program as"),
+    (THRICE, "# function: small::double", "# definition: small::twice", "it changes no definition"),
+    (TWICE, "# a wrong definition\n", "", "it has to have the lines"),
+    (TWICE, "# definition: small::twice", "# law: small::twice", "it has to have the lines"),
+    (TWICE, "specs/Sums.antt", "proofs/One.antt", "it changes no definition"),
+    (TWICE, "specs/Sums.antt", "specs/Other.antt", "there is no specs/Other.antt"),
+    (TWICE, "small::twice", "small::Told", "its old text stands in twice"),
+    (TWICE, "small::twice", "other::twice", "its definition is of another crate"),
+    (TWICE, "old: twice n = n + n", "old: -- Small definitions.", "its old text stands in no definition"),
+    (TWICE, "old: twice", "in: Told\nold: twice", "its old text stands 0 times"),
+    (TWICE, "old: twice", "in: told\nold: twice", "there is not one definition told"),
+    (TWICE, "new: twice n = n", "new: twice n = n + n -- once", "it changes nothing"),
 ]
 
 # what a prover says of the sound tree with an edit, its exit status, and a part of what `wrong` has to say
@@ -48,10 +60,26 @@ NOT_REFUSED = [
 ]
 
 
-def tried(plain, said, status, words=("small/thrice",)):
-    """The exit status and the words of the tool on an edit, with a prover that says this of it, and ends with a status on the tree without it."""
+# the same of an edit of a definition
+LAW = "/x/small/%s:1:1: error: `told-one`: %s\nlogic=not-proved\n"
+LAWS = [
+    (LAW % ("proofs/One.antt", "the two types differ"), 1, "refused at proofs/One.antt, told-one"),
+    (LAW % ("proofs/double/Proof.antt", "the two types differ"), 1, "refused at proofs/double/Proof.antt, told-one"),
+]
+NO_LAWS = [
+    ("logic=proved\n", 0, "NOT REFUSED"),
+    (LAW % ("proofs/One.antt", "the two types differ"), 2, "it did not reach the prover"),
+    (LAW % ("specs/Sums.antt", "the two types differ"), 1, "no law is refused"),
+    (LAW % ("proofs/One.antt", "`twice-is` was not admitted"), 1, "no law is refused"),
+    (LAW % ("proofs/One.antt", "record `x` has no field `kept`"), 1, "no law is refused"),
+]
+
+
+def tried(plain, said, status, words=("small/thrice",), checked=0):
+    """The exit status and the words of the tool on an edit, with a prover that says this of it, and ends with these statuses on the tree without it: `rt dev`, `rt check`."""
     with tempfile.TemporaryDirectory() as root:
-        prover = '#!/bin/sh\n[ "$1" = dev ] || exit 0\ngrep -q "    n + n + n" crates/small/src/lib.rt || exit %d\ncat "%s/said"\nexit %d\n' % (plain, root, status)
+        there = 'grep -q "    n + n + n" crates/small/src/lib.rt || grep -q "twice n = n$" crates/small/specs/Sums.antt'
+        prover = '#!/bin/sh\n[ "$1" = dev ] || exit %d\n%s || exit %d\ncat "%s/said"\nexit %d\n' % (checked, there, plain, root, status)
         write(root, dict(SOUND, said=said, **{"bin/rt": prover}))
         os.chmod(os.path.join(root, "bin", "rt"), 0o755)
         with mock.patch.dict(os.environ, PATH=os.path.join(root, "bin") + os.pathsep + os.environ["PATH"]):
@@ -73,12 +101,46 @@ class Wrong(unittest.TestCase):
 
     def test_not_refused(self):
         """The edit is not refused, or for something else."""
-        for plain, said, status, words in [(0,) + x for x in NOT_REFUSED] + [(1, "", 0, "the crate is not proved without it")]:
+        for said, status, words in NOT_REFUSED:
             with self.subTest(words):
-                ended, out = tried(plain, said, status)
+                ended, out = tried(0, said, status)
                 self.assertIn(words, out)
                 self.assertTrue(out.endswith("0 passed, 1 failed\n"), out)
                 self.assertEqual(ended, 1)
+
+    def test_definition(self):
+        """An edit of a definition is refused at a law, or it is not."""
+        for last, cases in (("1 passed, 0 failed\n", LAWS), ("0 passed, 1 failed\n", NO_LAWS)):
+            for said, status, words in cases:
+                with self.subTest(words):
+                    _, out = tried(0, said, status, ["small/twice_once"])
+                    self.assertIn(words, out)
+                    self.assertTrue(out.endswith(last), out)
+
+    def test_not_proved(self):
+        """The crate is not proved without an edit: by `rt check`, or where more than one is tried over what `rt dev` keeps."""
+        for plain, checked, words in ((0, 1, "the crates are not proved without an edit"), (1, 0, "the crate is not proved without it")):
+            with self.subTest(words):
+                ended, out = tried(plain, NAMED % "returns", 1, ["small/thrice", "small/once"], checked)
+                self.assertIn(words, out)
+                self.assertTrue(out.endswith("0 passed, 2 failed\n"), out)
+                self.assertEqual(ended, 1)
+
+    def test_rounds(self):
+        """Edits of one function are not tried at once, nor are those of two of which one calls the other; one of a definition is tried alone."""
+        edits = [SimpleNamespace(function=f, changed=c) for f, c in (("x", "a"), ("", "d"), ("x", "b"), ("y", "a"), ("", "e"), ("z", "c"))]
+        for calls, groups in (({}, [["a", "b", "c"], ["d"], ["a"], ["e"]]), ({"a": {"c"}}, [["a", "b"], ["d"], ["a"], ["e"], ["c"]]), ({"c": {"b"}}, [["a", "b"], ["d"], ["a", "c"], ["e"]])):
+            with self.subTest(calls):
+                found = loaded("wrong").rounds(edits, dict(dict.fromkeys("abcde", set()), **calls))
+                self.assertEqual([[e.changed for e in group] for group in found], groups)
+
+    def test_reached(self):
+        """What a function calls, itself or on the way."""
+        text = "fn one() {\n    two(); // three()\n}\n\nfn two() {\n    small::four(1);\n}\n\npub fn four(n: usize) {\n}\n\nfn three() {\n    one()\n}\n"
+        with tempfile.TemporaryDirectory() as root:
+            write(root, {LIB: text})
+            calls = loaded("wrong").reached(root, "small")
+        self.assertEqual({n: c - {n} for n, c in calls.items()}, {"one": {"two", "four"}, "two": {"four"}, "four": set(), "three": {"one", "two", "four"}})
 
     def test_other_crate(self):
         """A function is tried where it stands."""

@@ -226,8 +226,8 @@ impl Map {
             &mut work.heads,
             &mut work.weights,
             &mut work.preds,
-            &mut work.heap,
-            &mut work.places,
+            &mut work.peaks,
+            &mut work.words,
             &mut work.keys,
         ))?;
         Ok(Distances {
@@ -321,8 +321,8 @@ impl Map {
             &mut work.weights,
             &mut work.dist,
             &mut work.preds,
-            &mut work.heap,
-            &mut work.places,
+            &mut work.peaks,
+            &mut work.words,
             &mut work.keys,
         ))?;
         Ok(cost.shown().map(|cost| Path {
@@ -372,8 +372,8 @@ impl Map {
             &mut work.heights,
             &mut work.dist,
             &mut work.preds,
-            &mut work.heap,
-            &mut work.places,
+            &mut work.peaks,
+            &mut work.words,
             &mut work.keys,
         ))?;
         Ok(self.matrix(work))
@@ -528,8 +528,8 @@ macro_rules! search_f64 {
                 &mut work.offsets,
                 &mut work.heads,
                 &mut work.patterns,
-                &mut work.heap,
-                &mut work.places,
+                &mut work.peaks,
+                &mut work.words,
                 &mut work.keys64,
             ))?;
             Ok(Reached {

@@ -51,25 +51,25 @@ native!(put_f64 = dimetumble_put_f64(
 native!(dijkstra = dimetumble_dijkstra(
     bound: usize, count: usize, directed: u8, marks: &[u8], from: &[u16], to: &[u16], costs: &[i32], source: usize,
     dist: &mut [i64], offsets: &mut [usize], heads: &mut [u16], weights: &mut [i64],
-    preds: &mut [u32], heap: &mut [usize], places: &mut [usize], keys: &mut [i64],
+    preds: &mut [u32], peaks: &mut [usize], words: &mut [usize], keys: &mut [i64],
 ));
 
 native!(a_star = dimetumble_a_star(
     bound: usize, count: usize, directed: u8, marks: &[u8], from: &[u16], to: &[u16], costs: &[i32], source: usize, target: usize,
     guess: &[i64], cost: &mut i64, length: &mut usize, path: &mut [u32], offsets: &mut [usize], heads: &mut [u16], weights: &mut [i64],
-    dist: &mut [i64], preds: &mut [u32], heap: &mut [usize], places: &mut [usize], keys: &mut [i64],
+    dist: &mut [i64], preds: &mut [u32], peaks: &mut [usize], words: &mut [usize], keys: &mut [i64],
 ));
 
 native!(dijkstra_path_impl = dimetumble_dijkstra_path_impl(
     bound: usize, count: usize, directed: u8, marks: &[u8], from: &[u16], to: &[u16], bits: &[u64], opens: &[u8], source: usize,
     capped: u8, cutoff: f64, dist: &mut [f64], preds: &mut [u32], offsets: &mut [usize], heads: &mut [u16], weights: &mut [u64],
-    heap: &mut [usize], places: &mut [usize], keys: &mut [u64],
+    peaks: &mut [usize], words: &mut [usize], keys: &mut [u64],
 ));
 
 native!(dijkstra_path_f64 = dimetumble_dijkstra_path_f64(
     bound: usize, count: usize, directed: u8, marks: &[u8], from: &[u16], to: &[u16], bits: &[u64], opens: &[u8], source: usize,
     capped: u8, cutoff: f64, dist: &mut [f64], preds: &mut [u32], offsets: &mut [usize], heads: &mut [u16], weights: &mut [u64],
-    heap: &mut [usize], places: &mut [usize], keys: &mut [u64],
+    peaks: &mut [usize], words: &mut [usize], keys: &mut [u64],
 ));
 
 native!(bellman_ford = dimetumble_bellman_ford(
@@ -86,7 +86,7 @@ native!(floyd_warshall = dimetumble_floyd_warshall(
 native!(johnson = dimetumble_johnson(
     bound: usize, count: usize, directed: u8, marks: &[u8], from: &[u16], to: &[u16], costs: &[i32],
     matrix: &mut [i64], offsets: &mut [usize], heads: &mut [u16], weights: &mut [i64], heights: &mut [i64],
-    dist: &mut [i64], preds: &mut [u32], heap: &mut [usize], places: &mut [usize], keys: &mut [i64],
+    dist: &mut [i64], preds: &mut [u32], peaks: &mut [usize], words: &mut [usize], keys: &mut [i64],
 ));
 
 native!(hops = dimetumble_hops(

@@ -23,8 +23,8 @@ pub struct Workspace {
     pub(crate) dist: Vec<i64>,
     pub(crate) dist64: Vec<f64>,
     pub(crate) preds: Vec<u32>,
-    pub(crate) heap: Vec<usize>,
-    pub(crate) places: Vec<usize>,
+    pub(crate) peaks: Vec<usize>,
+    pub(crate) words: Vec<usize>,
     pub(crate) keys: Vec<i64>,
     pub(crate) keys64: Vec<u64>,
     pub(crate) queue: Vec<usize>,
@@ -65,8 +65,8 @@ impl Workspace {
         grow(&mut self.weights, arcs);
         grow(&mut self.dist, bound);
         grow(&mut self.preds, bound);
-        grow(&mut self.heap, bound);
-        grow(&mut self.places, bound);
+        grow(&mut self.peaks, bound);
+        grow(&mut self.words, bound);
         grow(&mut self.keys, bound);
     }
 
@@ -76,8 +76,8 @@ impl Workspace {
         grow(&mut self.patterns, arcs);
         grow(&mut self.dist64, bound);
         grow(&mut self.preds, bound);
-        grow(&mut self.heap, bound);
-        grow(&mut self.places, bound);
+        grow(&mut self.peaks, bound);
+        grow(&mut self.words, bound);
         grow(&mut self.keys64, bound);
     }
 

@@ -5,9 +5,8 @@
 use mathlib.Core.Path.{_≡_, refl, sym, ap, _∙_, subst}
 use mathlib.Core.Bool.{Bool, true, false}
 use mathlib.Core.List.{List, [], reverse}
-use mathlib.Core.Logic.{_⊎_, inl, inr}
 use mathlib.Core.Option.{Option, none, some}
-use Prim.Native.Nat.{ℕ, _+_, _-_, _≤_, _<_}
+use Prim.Native.Nat.{ℕ, suc, _-_, _≤_, _<_}
 use native.Mathlib.Omega.{arith}
 use borrow.Author.Tests.{lt-ltb}
 use lib.IntN.{ℤ, pos}
@@ -24,7 +23,9 @@ use Rattle.walks.proofs.Chain.{hops-few}
 use Rattle.walks.specs.Costs.{Costs32}
 use Rattle.bag.specs.Order.{pick}
 use Rattle.pending.specs.Setting.{Setting, End}
-use Rattle.pending.specs.OnePlace.{begin, Ends}
+use Rattle.pending.specs.Setting as Set
+use Rattle.pending.specs.OnePlace.{Cell, begin, Ends, empty, wrong, more}
+use Rattle.pending.specs.OnePlace as Bag
 use Rattle.pending.specs.Ints.{whole}
 use Rattle.pending.specs.Answers.{AStarAnswer}
 use Rattle.pending.proofs.Ints.{lt-is, lt-isnt}
@@ -32,24 +33,24 @@ use Rattle.pending.proofs.Whole.{dist-has, Final, rested, arrived, stopped, beg
 use Rattle.pending.proofs.One.{ends-map}
 use Rattle.pending.proofs.AStar.{a-star-answer}
 use Rattle.table.specs.Links.{links, Arc}
-use Rattle.net.specs.Net.{Net, netOf, ArcOf, has, nodesOf, width, arcRoom}
+use Rattle.net.specs.Net.{Net, netOf, ArcOf, has, nodesOf, width, mostArcs}
 use Rattle.net.proofs.Nodes.{has-below, width-most, present-in}
 use Rattle.net.proofs.Bounds.{whole-ints}
 use Rattle.net.proofs.Same.{arc-has, arc-below}
-use Rattle.rows.specs.Rows.{Lists, arcsInts, Ready, Room, Rows}
+use Rattle.rows.specs.Rows.{Lists, arcsInts, Ready, EnoughFor, Rows}
 use Rattle.rows.specs.RowArc.{RowArc}
-use Rattle.rows.proofs.Kept.{needs-kept, wiped-rows}
+use Rattle.rows.proofs.Kept.{lists-kept, wiped-rows}
 use Rattle.rows.proofs.Maps.{ready-ints, net-room, arcs-are, net-sound, net-kept, row-small}
 use Rattle.turns.specs.Memory.{Memory, Shows}
-use Rattle.search.specs.Search.{keyOf, targetOf, askedOf, settingOf, Fair, Fit}
-use Rattle.turns.specs.Firsts.{firsts, Roomy}
-use Rattle.turns.proofs.Firsts.{memory-roomy}
+use Rattle.search.specs.Ints.{keyOf, targetOf, askedOf, settingOf, Fair, Fit}
+use Rattle.turns.specs.Firsts.{firsts, EnoughMemory}
+use Rattle.turns.proofs.Firsts.{memory-enough}
 use Rattle.search.specs.Runs.{Ran}
 use Rattle.search.proofs.Runs.{shown-pred}
 use Rattle.search.proofs.Lists.{wiped-memory}
-use Rattle.a_star.specs.Promise.{Question, questionOf, Answer, Scratch, Buffers, fairGuess, Fine, atFront, wipedAll, searchOf, Says, bad, unreached, reached, Outcome}
+use Rattle.a_star.specs.Promise.{Question, questionOf, Answer, answerOf, without, Scratch, Buffers, fairGuess, Fine, atFront, wipedAll, searchOf, Says, unreached, reached, Outcome}
 use Rattle.a_star.specs.Trail.{GoesBack}
-use Rattle.a_star.specs.Parts.{Room as ScratchRoom, CanSeek, Ripe, Sought, given, Told, pathBack, Read, refused, nowhere, found}
+use Rattle.a_star.specs.Parts.{EnoughScratch, CanSeek, Ripe, Sought, given, Told, pathBack, Read, refused, nowhere, found}
 use Rattle.a_star.proofs.Path.{chain-back, chain-trail}
 use Rattle.a_star.proofs.Refusals.{fair-of, fair-where, fine-whole, fine-long}
 
@@ -86,11 +87,11 @@ module _ {m n : ℕ} {d : Bool} {xs ys : List ℕ} {cs : List ℤ} {s t : ℕ} {
   can-place = ready-ints m n d (w .ripe .marks) xs ys cs (fine-whole fine) (fine .inside)
 
   -- there is room for it
-  pub place-room : Room (arcsInts d n xs ys cs) m (b .rows)
+  pub place-room : EnoughFor (arcsInts d n xs ys cs) m (b .rows)
   place-room = net-room g (fine-long fine .rows)
 
   -- and for the search
-  pub search-room : Roomy m (b .memory)
+  pub search-room : EnoughMemory m (b .memory)
   search-room = fine-long fine .memory
 
   module _ {nb : Lists ℤ} (r : Rows (arcsInts d n xs ys cs) m (b .rows) nb) (small : Costs32 (Arc d (links n xs ys cs))) where
@@ -109,7 +110,8 @@ module _ {m n : ℕ} {d : Bool} {xs ys : List ℕ} {cs : List ℤ} {s t : ℕ} {
     }
 
     -- and the search over it is the one over the map
-    pub sought : {M : Memory ℤ} {number takes : ℕ} → Ran (askedOf m s t h) nb (b .memory) M number takes → Sought (Arc d (links n xs ys cs)) m (arcRoom d n) (questionOf s t h) b (record { rows = nb; memory = M }) number
+    pub sought : {M : Memory ℤ} {number takes : ℕ} → Ran (askedOf m s t h) nb (b .memory) M number takes
+        → Sought (Arc d (links n xs ys cs)) m (mostArcs d n) (questionOf s t h) b (record { rows = nb; memory = M }) number
     sought z = record {
       end = z .searched .end;
       ends =
@@ -122,6 +124,13 @@ module _ {m n : ℕ} {d : Bool} {xs ys : List ℕ} {cs : List ℤ} {s t : ℕ} {
     }
 
 -- ---- what the end of a search has
+-- an end without 0 is that of a cost below zero
+pub end-refused : {S : Setting ℤ ℤ} {Arc : ℕ → ℕ → ℤ → Type 0} {s : ℕ → Cell ℤ} {n : ℕ} {x : End ℤ} → Ends S Arc s n x → (x .number ≡ 0 → ⊥) → (k : ℕ) × (x ≡ Set.refused k)
+end-refused (empty f) z = absurd (z refl)
+end-refused (Bag.found u d p t f) z = absurd (z refl)
+end-refused {n = n} (wrong u d p t f v c a h) z = (suc n, refl)
+end-refused (more w r) z = end-refused r z
+
 module _ {Arc : ℕ → ℕ → ℤ → Type 0} (q : Question) {x : End ℤ} (ends : Ends (searchOf q) Arc (begin (searchOf q)) 0 x) where
   -- what the pending bag's end says of walks
   pub answered : AStarAnswer Arc (λ v. getD (q .guess) v (pos 0)) (q .source) (q .target) x
@@ -144,6 +153,13 @@ module _ {Arc : ℕ → ℕ → ℤ → Type 0} (q : Question) {x : End ℤ} (en
       go (rested s n i f) e = let k = dist-has (s v) d e in record { up = i .up v d (k .0) (k .1); walk = i .walk v d (k .0) (k .1) }
       go (arrived s n u c p i f j) e = let k = dist-has (s v) d e in record { up = i .up v d (k .0) (k .1); walk = i .walk v d (k .0) (k .1) }
       go (stopped n u c y k f j l) e = absurd (let z : _≡_ {A = ℕ} 0 1 = cc in omega arith)
+
+-- an end with a distance has 0
+pub some-zero : {S : Setting ℤ ℤ} {Arc : ℕ → ℕ → ℤ → Type 0} {s : ℕ → Cell ℤ} {n : ℕ} {x : End ℤ} {v : ℕ} {d : ℤ} → Ends S Arc s n x → x .dist v ≡ some d → x .number ≡ 0
+some-zero (empty f) e = refl
+some-zero (Bag.found u d p t f) e = refl
+some-zero (wrong u d p t f v c a h) e = absurd (let z : _≡_ {A = ℕ} 0 1 = cc in omega arith)
+some-zero (more w r) e = some-zero r e
 
 -- a walk from an index that the map has ends at one
 pub walk-has : (g : Net ℤ) → ((u v : ℕ) (c : ℤ) → ArcOf g u v c → has g v ≡ true) → {u v : ℕ} {t : ℤ} → Walk (ArcOf g) u v t → has g u ≡ true → has g v ≡ true
@@ -218,30 +234,28 @@ module _ (g : Net ℤ) (q : Question) {b : Buffers} (w : Fine g q b) {x : End �
         go (some d) e = back-in-time d e (answered q ends .chain z d e)
 
     -- a target with a distance
-    pub says-found : {r : Answer} {l : List ℕ} → x .number ≡ 0 → given (M .dist) (q .target) ≡ true → r ≡ record { number = 0; cost = getD (M .dist) (q .target) noneI64; length = length l } → l ≡ pathBack m (M .preds) (q .source) (q .target) → Says (ArcOf g) q x r l
+    pub says-found : {r : Answer} {l : List ℕ} → x .number ≡ 0 → given (M .dist) (q .target) ≡ true → r ≡ answerOf 0 (getD (M .dist) (q .target) noneI64) (length l)
+        → l ≡ pathBack m (M .preds) (q .source) (q .target) → Says (ArcOf g) q x r l
     says-found {r} {l} z y a p = go (x .dist (q .target)) refl
       where
         go : (o : Option ℤ) → x .dist (q .target) ≡ o → Says (ArcOf g) q x r l
         go none e = absurd (clash y (given-none (M .dist) (q .target) (dist-is ∙ ap (shown noneI64) e)))
         go (some d) e =
             let c = answered q ends .chain z d e in
-            reached z d e c (a ∙ ap (λ (k : ℤ). record { number = 0; cost = k; length = length l }) (dist-is ∙ ap (shown noneI64) e)) (p ∙ path-is d e c)
+            let k : getD (M .dist) (q .target) noneI64 ≡ d = dist-is ∙ ap (shown noneI64) e in
+            reached d e c (a ∙ (λ i. answerOf (sym z i) (k i) (length l))) (p ∙ path-is d e c)
 
     -- and one without
-    pub says-nowhere : {r : Answer} → x .number ≡ 0 → given (M .dist) (q .target) ≡ false → r ≡ record { number = 0; cost = noneI64; length = 0 } → Says (ArcOf g) q x r []
+    pub says-nowhere : {r : Answer} → x .number ≡ 0 → given (M .dist) (q .target) ≡ false → r ≡ without 0 → Says (ArcOf g) q x r []
     says-nowhere {r} z y a = go (x .dist (q .target)) refl
       where
         go : (o : Option ℤ) → x .dist (q .target) ≡ o → Says (ArcOf g) q x r []
-        go none e = unreached z e a refl
+        go none e = unreached e (a ∙ ap without (sym z)) refl
         go (some d) e = absurd (clash (given-some (M .dist) (q .target) d (dist-is ∙ ap (shown noneI64) e) (got q ends (q .target) d e .up)) y)
 
   -- a search that was refused
-  pub says-bad : {r : Answer} {number : ℕ} → number ≡ x .number → (number ≡ 0 → ⊥) → r ≡ record { number = number; cost = noneI64; length = 0 } → Says (ArcOf g) q x r []
-  says-bad {r} {number} e f a = go (answered q ends .number)
-    where
-      go : (x .number ≡ 0) ⊎ (x .number ≡ 6) → Says (ArcOf g) q x r []
-      go (inl z) = absurd (f (e ∙ z))
-      go (inr z) = bad z (a ∙ ap (λ (k : ℕ). record { number = k; cost = noneI64; length = 0 }) (e ∙ z)) refl
+  pub says-bad : {r : Answer} {number : ℕ} → number ≡ x .number → (number ≡ 0 → ⊥) → r ≡ without number → Says (ArcOf g) q x r []
+  says-bad e f a = unreached (ap (λ (y : End ℤ). y .dist (q .target)) (end-refused ends (λ z. f (e ∙ z)) .1)) (a ∙ ap without e) refl
 
 -- no path written
 front-none : (p : List ℕ) → p ≡ atFront [] p
@@ -267,36 +281,39 @@ module _ {m n : ℕ} {d : Bool} {xs ys : List ℕ} {cs : List ℤ} {q : Question
   can-seek = record { path = b .path; ripe = w }
 
   -- after the search
-  module _ {t : Scratch} {number : ℕ} (z : Sought (Arc d (links n xs ys cs)) m (arcRoom d n) q (b .scratch) t number) where
+  module _ {t : Scratch} {number : ℕ} (z : Sought (Arc d (links n xs ys cs)) m (mostArcs d n) q (b .scratch) t number) where
     -- the answer can be read off
     pub told : Told number m (q .source) (q .target) (t .memory .dist) (t .memory .preds) (b .path)
     told = record {
       bounded = few-indices;
       target = has-below h (q .target) (w .fine .target);
-      dist = memory-roomy (fine-long (w .fine) .memory) (z .memory) .dist;
-      preds = memory-roomy (fine-long (w .fine) .memory) (z .memory) .preds;
+      dist = memory-enough (fine-long (w .fine) .memory) (z .memory) .dist;
+      preds = memory-enough (fine-long (w .fine) .memory) (z .memory) .preds;
       path = fine-long (w .fine) .path;
-      back = λ e y. goes-back h q (w .fine) (z .ends) (t .memory) (memory-roomy (fine-long (w .fine) .memory) (z .memory) .preds) (z .shows e) (sym (z .is) ∙ e) y;
+      back = λ e y. goes-back h q (w .fine) (z .ends) (t .memory) (memory-enough (fine-long (w .fine) .memory) (z .memory) .preds) (z .shows e) (sym (z .is) ∙ e) y;
     }
 
     -- the scratch can be wiped
-    pub can-wipe : {a : ℕ} → a ≡ arcRoom d n → ScratchRoom m a t
-    can-wipe {a} e = subst (λ (k : ℕ). ScratchRoom m k t) (sym e) (record { rows = needs-kept (fine-long (w .fine) .rows) (z .rows); memory = memory-roomy (fine-long (w .fine) .memory) (z .memory) })
+    pub can-wipe : {a : ℕ} → a ≡ mostArcs d n → EnoughScratch m a t
+    can-wipe {a} e =
+        subst (λ (k : ℕ). EnoughScratch m k t) (sym e) (record { rows = lists-kept (fine-long (w .fine) .rows) (z .rows); memory = memory-enough (fine-long (w .fine) .memory) (z .memory) })
 
     -- the answer read off, and the scratch wiped
-    pub outcome : {l : List ℕ} {r : Answer} {a : ℕ} {u : Scratch} → Read number m (q .source) (q .target) (t .memory .dist) (t .memory .preds) (b .path) l r → a ≡ arcRoom d n → u ≡ wipedAll m a t → Outcome (Arc d (links n xs ys cs)) m (arcRoom d n) q b (record { path = l; scratch = u }) r
+    pub outcome : {l : List ℕ} {r : Answer} {a : ℕ} {u : Scratch} → Read number m (q .source) (q .target) (t .memory .dist) (t .memory .preds) (b .path) l r → a ≡ mostArcs d n → u ≡ wipedAll m a t
+        → Outcome (Arc d (links n xs ys cs)) m (mostArcs d n) q b (record { path = l; scratch = u }) r
     outcome {l} {r} {a} {u} y e f = go y
       where
-        clean : u ≡ wipedAll m (arcRoom d n) (b .scratch)
+        clean : u ≡ wipedAll m (mostArcs d n) (b .scratch)
         clean = f ∙ (ap (λ (k : ℕ). wipedAll m k t) e ∙ (λ i. record { rows = wiped-rows (pos 0) (z .rows) i; memory = wiped-memory (z .memory) i }))
 
-        made : (p : List ℕ) → Says (Arc d (links n xs ys cs)) q (z .end) r p → l ≡ atFront p (filled m noneU32 (b .path)) → Outcome (Arc d (links n xs ys cs)) m (arcRoom d n) q b (record { path = l; scratch = u }) r
+        made : (p : List ℕ) → Says (Arc d (links n xs ys cs)) q (z .end) r p → l ≡ atFront p (filled m noneU32 (b .path))
+            → Outcome (Arc d (links n xs ys cs)) m (mostArcs d n) q b (record { path = l; scratch = u }) r
         made p s k = record { end = z .end; ends = z .ends; path = p; says = s; leaves = λ i. record { path = k i; scratch = clean i } }
 
         longP : m ≤ length (t .memory .preds)
-        longP = memory-roomy (fine-long (w .fine) .memory) (z .memory) .preds
+        longP = memory-enough (fine-long (w .fine) .memory) (z .memory) .preds
 
-        go : Read number m (q .source) (q .target) (t .memory .dist) (t .memory .preds) (b .path) l r → Outcome (Arc d (links n xs ys cs)) m (arcRoom d n) q b (record { path = l; scratch = u }) r
+        go : Read number m (q .source) (q .target) (t .memory .dist) (t .memory .preds) (b .path) l r → Outcome (Arc d (links n xs ys cs)) m (mostArcs d n) q b (record { path = l; scratch = u }) r
         go (refused p i k) = made [] (says-bad h q (w .fine) (z .ends) (z .is) p i) (k ∙ front-none (filled m noneU32 (b .path)))
         go (nowhere p y i k) = made [] (says-nowhere h q (w .fine) (z .ends) (t .memory) longP (z .shows p) (sym (z .is) ∙ p) y i) (k ∙ front-none (filled m noneU32 (b .path)))
         go (found p y i k) = made (pathBack m (t .memory .preds) (q .source) (q .target)) (says-found h q (w .fine) (z .ends) (t .memory) longP (z .shows p) (sym (z .is) ∙ p) y i refl) k

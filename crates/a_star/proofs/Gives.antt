@@ -5,9 +5,9 @@
 use mathlib.Core.Path.{_≡_, refl, sym, ap, _∙_, subst}
 use mathlib.Core.Bool.{true}
 use mathlib.Core.List.{List, [], _∷_, reverse, reverse-reverse}
-use mathlib.Core.Logic.{_⊎_, inl, inr, _↔_}
+use mathlib.Core.Logic.{_⊎_, inl, inr, ⊎-elim, _↔_}
 use mathlib.Core.Option.{Option, none, some}
-use Prim.Native.Nat.{ℕ, suc, _<_}
+use Prim.Native.Nat.{ℕ, suc, _≤_, _<_}
 use native.Mathlib.Omega.{arith}
 use borrow.Author.Tests.{eq-eqb}
 use lib.IntN.{ℤ, pos}
@@ -27,13 +27,14 @@ use Rattle.pending.specs.Setting.{End}
 use Rattle.pending.specs.OnePlace.{Cell, out, has as held, distOf, doneAt, begin, Ends, empty, found, wrong, more}
 use Rattle.pending.specs.Reach.{Admissible}
 use Rattle.pending.proofs.Cells.{upd-cases, upd-here, not-out}
-use Rattle.net.specs.Net.{Net, ArcOf, has, sizeOf}
+use Rattle.net.specs.Net.{Net, ArcOf, has, width, mostArcsOf}
 use Rattle.net.proofs.Same.{arc-has}
 use Rattle.net.proofs.Cheapest.{net-path-total}
-use Rattle.a_star.specs.Promise.{Question, Answer, answerOf, without, Buffers, Fine, atFront, searchOf, Says, bad, unreached, reached, Outcome, Promise, short, outside, noSource, noTarget, farGuess, ran}
+use Rattle.a_star.specs.Promise.{Question, Answer, answerOf, without, Buffers, Fine, atFront, searchOf, EndsIn, Says, unreached, reached, Outcome, Result, Promise}
 use Rattle.a_star.specs.Given.{pathIn, Modest, Given}
 use Rattle.a_star.proofs.Path.{chain-path, distinct-back, passed-source}
-use Rattle.a_star.proofs.Answers.{answered, got, chain-few}
+use Rattle.a_star.proofs.Answers.{answered, got, chain-few, some-zero}
+use Rattle.a_star.proofs.Settles.{Ran, cases, outcome-of}
 
 -- an index from which a walk leads to one that the map has is one too
 starts-has : (g : Net ℤ) → ((u v : ℕ) (c : ℤ) → ArcOf g u v c → has g u ≡ true) → {u v : ℕ} {t : ℤ} → Walk (ArcOf g) u v t → has g v ≡ true → has g u ≡ true
@@ -46,11 +47,21 @@ unfolding atFront
 front-take l p n e = take-at l (drop (length l) p) n e
 
 -- the path that is given is that of the outcome
-pub path-front : {Arc : ℕ → ℕ → ℤ → Type 0} {m a : ℕ} {q : Question} {b e : Buffers} {r : Answer} {d : ℤ} (o : Outcome Arc m a q b e r) → r ≡ answerOf 0 d (length (o .path)) → pathIn e r ≡ o .path
-path-front {m = m} {b = b} {r = r} o p = ap (λ (x : Buffers). take (r .length) (x .path)) (o .leaves) ∙ front-take (o .path) (filled m noneU32 (b .path)) (r .length) (sym (ap (λ (x : Answer). x .length) p))
+pub path-front : {Arc : ℕ → ℕ → ℤ → Type 0} {m a : ℕ} {q : Question} {b e : Buffers} {r : Answer} {k : ℕ} {d : ℤ} (o : Outcome Arc m a q b e r)
+    → r ≡ answerOf k d (length (o .path)) → pathIn e r ≡ o .path
+path-front {m = m} {b = b} {r = r} o p =
+    ap (λ (x : Buffers). take (r .length) (x .path)) (o .leaves) ∙ front-take (o .path) (filled m noneU32 (b .path)) (r .length) (sym (ap (λ (x : Answer). x .length) p))
+
+-- its length is the one given, and no more than p, since it has no index twice
+pub path-few : {g : Net ℤ} {q : Question} {b e : Buffers} {r : Answer} → Fine g q b → (o : Ran g q b e r) → (length (o .path) ≤ width g) × (r .length ≡ length (o .path))
+path-few {g} {q} {r = r} w o = go (o .says)
+  where
+    go : {l : List ℕ} → Says (ArcOf g) q (o .end) r l → (length l ≤ width g) × (r .length ≡ length l)
+    go (unreached n p i) = (omega (arith, ap length i), omega (arith, ap length i, ap (λ (x : Answer). x .length) p))
+    go (reached d n c p i) = (omega (arith, ap length i, length-reverse (passed c), passed-length c, chain-few g q w (o .ends) d n c), ap (λ (x : Answer). x .length) p)
 
 module _ {g : Net ℤ} {q : Question} {b : Buffers} where
-  module _ {e : Buffers} {r : Answer} (w : Fine g q b) (o : Outcome (ArcOf g) (g .bound) (sizeOf g) q b e r) where
+  module _ {e : Buffers} {r : Answer} (w : Fine g q b) (o : Outcome (ArcOf g) (g .bound) (mostArcsOf g) q b e r) where
     -- a modest heuristic is admissible
     admissible : Modest g q → Admissible (ArcOf g) (λ v. getD (q .guess) v (pos 0)) (q .target)
     admissible a = record { at-target = a .at-target; under = λ v t k. a .under v (starts-has g (λ u z c y. arc-has g (w .inside) u z c y .0) k (w .target)) t k }
@@ -60,9 +71,9 @@ module _ {g : Net ℤ} {q : Question} {b : Buffers} where
     gives h = go (o .says)
       where
         go : Says (ArcOf g) q (o .end) r (o .path) → Given g q r (pathIn e r)
-        go (bad z p i) = absurd (omega (arith, h, ap (λ (x : Answer). x .length) p))
-        go (unreached z n p i) = absurd (omega (arith, h, ap (λ (x : Answer). x .length) p))
-        go (reached z d n c p i) =
+        go (unreached n p i) = absurd (omega (arith, h, ap (λ (x : Answer). x .length) p))
+        go (reached d n c p i) =
+            let z = some-zero (o .ends) n in
             let is : pathIn e r ≡ reverse (passed c) = path-front o p ∙ i in
             let t = net-path-total g (chain-path c) in
             let total : Cheapest (ArcOf g) (passed c) (t .0) = subst (λ (l : List ℕ). Cheapest (ArcOf g) l (t .0)) (reverse-reverse (passed c)) (t .1) in
@@ -71,7 +82,7 @@ module _ {g : Net ℤ} {q : Question} {b : Buffers} where
             record {
               path = subst (Path (ArcOf g) (q .source) (q .target)) (sym is) (chain-path c);
               distinct = subst NoDup (sym is) (distinct-back (passed c) (chain-distinct c));
-              few = omega (arith, ap length is, length-reverse (passed c), passed-length c, chain-few g q w (o .ends) d n c);
+              few = omega (arith, ap length (path-front o p), path-few w o .0);
               walk = subst (Walk (ArcOf g) (q .source) (q .target)) cost (y .walk z d n);
               total = t .0;
               cheapest = subst (λ (l : List ℕ). Cheapest (ArcOf g) (reverse l) (t .0)) (sym is) (t .1);
@@ -82,12 +93,7 @@ module _ {g : Net ℤ} {q : Question} {b : Buffers} where
 
   -- of every answer with a path
   pub given : {e : Buffers} {r : Answer} → Promise g q b e r → 0 < r .length → Given g q r (pathIn e r)
-  given (short p e f) h = absurd (omega (arith, h, ap (λ (x : Answer). x .length) p))
-  given (outside p e i f) h = absurd (omega (arith, h, ap (λ (x : Answer). x .length) p))
-  given (noSource p e i s f) h = absurd (omega (arith, h, ap (λ (x : Answer). x .length) p))
-  given (noTarget p e i s t f) h = absurd (omega (arith, h, ap (λ (x : Answer). x .length) p))
-  given (farGuess p e i s t k f) h = absurd (omega (arith, h, ap (λ (x : Answer). x .length) p))
-  given (ran w o) h = gives w o h
+  given p h = ⊎-elim (λ x. absurd (omega (arith, h, ap (λ (y : Result). y .length) (x .2)))) (λ x. gives (x .0) (x .1) h) (cases p)
 
 -- there is such a heuristic: 0 at every index, where no cost is below zero
 pub zero-modest : (g : Net ℤ) (q : Question) → ((v : ℕ) → getD (q .guess) v (pos 0) ≡ pos 0) → ((u v : ℕ) (c : ℤ) → ArcOf g u v c → pos 0 ≤ℤ c) → Modest g q
@@ -105,18 +111,12 @@ Found g q r = (pos 0 ≤ℤ r .cost) × (0 < r .length) × Walk (ArcOf g) (q .so
 module _ {g : Net ℤ} {q : Question} {b : Buffers} where
   -- without a refusal: no cost and no path where no walk leads to the target, else both
   none-or-given : {e : Buffers} {r : Answer} → Promise g q b e r → r .number ≡ 0 → ((r ≡ without 0) × NoWalk g q) ⊎ Found g q r
-  none-or-given (short p e f) z = absurd (omega (arith, z, ap (λ (x : Answer). x .number) p))
-  none-or-given (outside p e i f) z = absurd (omega (arith, z, ap (λ (x : Answer). x .number) p))
-  none-or-given (noSource p e i s f) z = absurd (omega (arith, z, ap (λ (x : Answer). x .number) p))
-  none-or-given (noTarget p e i s t f) z = absurd (omega (arith, z, ap (λ (x : Answer). x .number) p))
-  none-or-given (farGuess p e i s t h f) z = absurd (omega (arith, z, ap (λ (x : Answer). x .number) p))
-  none-or-given {e} {r} (ran w o) z = go (o .says)
+  none-or-given {e} {r} promise z = ⊎-elim (λ x. absurd (omega (arith, z, x .0))) (λ x. go (x .1 .ends) (x .1 .says)) (cases promise)
     where
-      go : {l : List ℕ} → Says (ArcOf g) q (o .end) r l → ((r ≡ without 0) × NoWalk g q) ⊎ Found g q r
-      go (bad y p i) = absurd (omega (arith, z, ap (λ (x : Answer). x .number) p))
-      go (unreached y n p i) = inl (p, answered q (o .ends) .unreached y n)
-      go (reached y d n c p i) =
-          let k = got q (o .ends) (q .target) d n in
+      go : {x : End ℤ} {l : List ℕ} → EndsIn (ArcOf g) q x → Says (ArcOf g) q x r l → ((r ≡ without 0) × NoWalk g q) ⊎ Found g q r
+      go ends (unreached n p i) = let y = sym (ap (λ (x : Answer). x .number) p) ∙ z in inl (p ∙ ap without y, answered q ends .unreached y n)
+      go ends (reached d n c p i) =
+          let k = got q ends (q .target) d n in
           let cost : d ≡ r .cost = sym (ap (λ (x : Answer). x .cost) p) in
           let some : 0 < r .length = omega (arith, ap (λ (x : Answer). x .length) p, ap length i, length-reverse (passed c), passed-length c) in
           inr (subst (λ (x : ℤ). pos 0 ≤ℤ x) cost (k .up), some, subst (Walk (ArcOf g) (q .source) (q .target)) cost (k .walk))
@@ -158,13 +158,11 @@ ends-first q e k (more w r) = absurd (clash (eq-eqb (w .u) (q .target) (first-he
 module _ {g : Net ℤ} {q : Question} {b : Buffers} where
   -- cost 0, and the source alone
   pub own-place : {e : Buffers} {r : Answer} → Promise g q b e r → Fine g q b → q .target ≡ q .source → (r ≡ answerOf 0 (pos 0) 1) × (pathIn e r ≡ q .source ∷ [])
-  own-place (short p e f) w k = absurd (clash (w .enough) e)
-  own-place (outside p e i f) w k = absurd (clash (w .inside) i)
-  own-place (noSource p e i s f) w k = absurd (clash (w .source) s)
-  own-place (noTarget p e i s t f) w k = absurd (clash (w .target) t)
-  own-place (farGuess p e i s t h f) w k = absurd (clash (w .fair) h)
-  own-place {e} {r} (ran v o) w k = go (o .says)
+  own-place {e} {r} promise w k = go (o .says)
     where
+      o : Outcome (ArcOf g) (g .bound) (mostArcsOf g) q b e r
+      o = outcome-of promise w
+
       x : o .end ≡ doneAt (begin (searchOf q)) 1
       x = ends-first q k refl (o .ends)
 
@@ -172,12 +170,11 @@ module _ {g : Net ℤ} {q : Question} {b : Buffers} where
       at = ap (λ (y : End ℤ). y .dist (q .target)) x ∙ ap distOf (ap (begin (searchOf q)) k ∙ first-dist q)
 
       go : Says (ArcOf g) q (o .end) r (o .path) → (r ≡ answerOf 0 (pos 0) 1) × (pathIn e r ≡ q .source ∷ [])
-      go (bad z p i) = absurd (let y : _≡_ {A = ℕ} 6 0 = sym z ∙ ap (λ (y : End ℤ). y .number) x in omega (arith, y))
-      go (unreached z n p i) = absurd (let y : none ≡ some (pos 0) = sym n ∙ at in let j : _≡_ {A = ℕ} 0 1 = cc in omega arith)
-      go (reached z d n c p i) =
+      go (unreached n p i) = absurd (let y : none ≡ some (pos 0) = sym n ∙ at in let j : _≡_ {A = ℕ} 0 1 = cc in omega arith)
+      go (reached d n c p i) =
           let y : some d ≡ some (pos 0) = sym n ∙ at in
           let cost : d ≡ pos 0 = cc in
           let l : o .path ≡ q .source ∷ [] = i ∙ (ap reverse (passed-source c k) ∙ ap (λ (v : ℕ). v ∷ []) k) in (
-            p ∙ (λ j. answerOf 0 (cost j) (length (l j))),
+            p ∙ (λ j. answerOf (x j .number) (cost j) (length (l j))),
             path-front o p ∙ l,
           )

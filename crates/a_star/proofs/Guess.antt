@@ -11,17 +11,19 @@ use lib.IntN.{ℤ, pos}
 use lib.Signed.{ltZ}
 use lib.ListN.{length, getD}
 use Rattle.whole.specs.Zed.{_⊕_}
+use Rattle.numbers.specs.Numbers.{here, past, Follows}
 use Rattle.bag.specs.Order.{before}
 use Rattle.pending.specs.Setting.{End}
 use Rattle.pending.specs.OnePlace.{Cell, begin, Takes, NewCell, stays, stores, Next, Ends, empty, found, wrong, more}
 use Rattle.pending.proofs.Once.{Within, begin-within, next-within}
-use Rattle.net.specs.Net.{Net, ArcOf, wholeNet, has, nodesOf, insideNet, sizeOf}
+use Rattle.net.specs.Net.{Net, ArcOf, wholeNet, has, nodesOf, insideNet, mostArcsOf}
 use Rattle.net.proofs.Nodes.{present-in, in-present}
 use Rattle.net.proofs.Same.{arc-has}
-use Rattle.rows.specs.Scratch.{hasRoom}
+use Rattle.rows.specs.Scratch.{hasLists}
 use Rattle.search.specs.Lists.{hasMemory}
-use Rattle.a_star.specs.Promise.{Question, questionOf, Answer, Buffers, longEnough, enough, isFair, fairAt, fairBelow, searchOf, Says, bad, unreached, reached, Promise, short, outside, noSource, noTarget, farGuess, ran}
+use Rattle.a_star.specs.Promise.{Question, questionOf, Answer, Buffers, longEnough, enough, isFair, fairAt, fairBelow, Fine, searchOf, Says, unreached, reached, resultOf, table, Promise}
 use Rattle.a_star.proofs.Refusals.{fair-absent, fair-present}
+use Rattle.a_star.proofs.Settles.{ran, outcome-of}
 
 -- what a turn stores does not look at the keys
 new-same : (q q′ : Question) {A : ℤ → Type 0} {u : ℕ} {d : ℤ} {old new : Cell ℤ} → NewCell (searchOf q) A u d old new → NewCell (searchOf q′) A u d old new
@@ -85,15 +87,14 @@ module _ (g : Net ℤ) (q : Question) (h : List ℤ) (same : (v : ℕ) → has g
 
   -- an end says the same
   says-same : {x : End ℤ} {r : Answer} {l : List ℕ} → Says (ArcOf g) q x r l → Says (ArcOf g) q′ x r l
-  says-same (bad z p i) = bad z p i
-  says-same (unreached z n p i) = unreached z n p i
-  says-same (reached z d n c p i) = reached z d n c p i
+  says-same (unreached n p i) = unreached n p i
+  says-same (reached d n c p i) = reached d n c p i
 
   module _ (b : Buffers) (long : leb (g .bound) (length (q .guess)) ≡ leb (g .bound) (length h)) where
     -- refusal 1 for both or for none
-    long-same : longEnough (g .bound) (sizeOf g) (q .guess) b ≡ longEnough (g .bound) (sizeOf g) h b
+    long-same : longEnough (g .bound) (mostArcsOf g) (q .guess) b ≡ longEnough (g .bound) (mostArcsOf g) h b
     unfolding longEnough
-    long-same = ap (λ (x : Bool). x && (leb (g .bound) (length (b .path)) && (hasRoom (g .bound) (sizeOf g) (b .scratch .rows) && hasMemory (g .bound) (b .scratch .memory)))) long
+    long-same = ap (λ (x : Bool). x && (leb (g .bound) (length (b .path)) && (hasLists (g .bound) (mostArcsOf g) (b .scratch .rows) && hasMemory (g .bound) (b .scratch .memory)))) long
 
     -- with the map
     enough-same : enough g q b ≡ enough g q′ b
@@ -101,11 +102,19 @@ module _ (g : Net ℤ) (q : Question) (h : List ℤ) (same : (v : ℕ) → has g
 
     -- both long enough or neither, and alike at each index that the map has: the same answers
     pub promise-guess : {e : Buffers} {r : Answer} → Promise g q b e r → Promise g q′ b e r
-    promise-guess (short p e f) = short p (sym enough-same ∙ e) f
-    promise-guess (outside p e i f) = outside p (sym enough-same ∙ e) i f
-    promise-guess (noSource p e i s f) = noSource p (sym enough-same ∙ e) i s f
-    promise-guess (noTarget p e i s t f) = noTarget p (sym enough-same ∙ e) i s t f
-    promise-guess (farGuess p e i s t k f) = farGuess p (sym enough-same ∙ e) i s t (sym (fair-same (g .bound)) ∙ k) f
-    promise-guess (ran w o) =
-        ran (record { enough = sym enough-same ∙ w .enough; inside = w .inside; source = w .source; target = w .target; fair = sym (fair-same (g .bound)) ∙ w .fair })
-        (record { end = o .end; ends = end-same (w .source) (w .inside) (o .ends); path = o .path; says = says-same (o .says); leaves = o .leaves })
+    promise-guess {e} {r} promise = record { follows = go (promise .follows) }
+      where
+        -- behind the tests the same outcome
+        outcome : Fine g q b → Follows (table g q′ b) (resultOf r e) (r .number)
+        outcome w =
+            let o = outcome-of promise w in
+            ran (record { enough = sym enough-same ∙ w .enough; inside = w .inside; source = w .source; target = w .target; fair = sym (fair-same (g .bound)) ∙ w .fair })
+            (record { end = o .end; ends = end-same (w .source) (w .inside) (o .ends); path = o .path; says = says-same (o .says); leaves = o .leaves }) .follows
+
+        go : Follows (table g q b) (resultOf r e) (r .number) → Follows (table g q′ b) (resultOf r e) (r .number)
+        go (here l x) = here (sym enough-same ∙ l) x
+        go (past l (here i x)) = past (sym enough-same ∙ l) (here i x)
+        go (past l (past i (here s x))) = past (sym enough-same ∙ l) (past i (here s x))
+        go (past l (past i (past s (here t x)))) = past (sym enough-same ∙ l) (past i (past s (here t x)))
+        go (past l (past i (past s (past t (here h x))))) = past (sym enough-same ∙ l) (past i (past s (past t (here (sym (fair-same (g .bound)) ∙ h) x))))
+        go (past l (past i (past s (past t (past h f))))) = outcome (record { enough = l; inside = i; source = s; target = t; fair = h })

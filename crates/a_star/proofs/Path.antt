@@ -33,7 +33,8 @@ module _ (ps : List ℕ) (s : ℕ) where
   -- one arc back
   pub trail-back : (k v : ℕ) → 0 < k → (v ≡ s → ⊥) → trail ps s k v ≡ trail ps s (k - 1) (getD ps v 0) ++ (v ∷ [])
   trail-back zero v l n = absurd (omega arith)
-  trail-back (suc k) v l n = ap (λ (b : Bool). elim b [ true ↦ v ∷ [] | false ↦ trail ps s k (getD ps v 0) ++ (v ∷ []) ]) (ne-eqb v s n) ∙ ap (λ (j : ℕ). trail ps s j (getD ps v 0) ++ (v ∷ [])) (one-less k)
+  trail-back (suc k) v l n =
+      ap (λ (b : Bool). elim b [ true ↦ v ∷ [] | false ↦ trail ps s k (getD ps v 0) ++ (v ∷ []) ]) (ne-eqb v s n) ∙ ap (λ (j : ℕ). trail ps s j (getD ps v 0) ++ (v ∷ [])) (one-less k)
 
   -- one index more than arcs, at most
   pub trail-long : (k v : ℕ) → length (trail ps s k v) ≤ suc k

@@ -1,7 +1,7 @@
 -- The refusals: what the tests of the code say in their order, what a refusal leaves, and what holds where there is none.
 -- The two tests of one heuristic are its range; all below m are fair exactly if each index of the map is, by induction on m. Each way through the code ends at the
--- first test that fails, those before it having passed, and there `refusalNo` computes to the number that is returned. So a number other than 0 is one of the
--- promise's cases, each of which leaves every buffer, and 0 says that no test failed, which is `Fine`.
+-- first test that fails, those before it having passed, and there `refusalNo` computes to the number that is returned. So a number other than 0 is that of a row of
+-- the table, each of which leaves every buffer, and 0 says that no test failed, which is `Fine`.
 -- Assumes nothing.
 use mathlib.Core.Path.{_≡_, refl, sym, ap, _∙_, subst}
 use mathlib.Core.Bool.{Bool, true, false, _&&_}
@@ -17,14 +17,16 @@ use lib.Signed.{ltZ, leZ}
 use lib.ListN.{length, getD}
 use Rattle.whole.specs.Zed.{zed, lt-yes, lt-no, le-yes, le-no}
 use Rattle.whole.proofs.Cases.{clash, and-left, and-right, both-of}
-use Rattle.net.specs.Net.{Net, wholeNet, insideNet, has, sizeOf}
-use Rattle.rows.specs.Scratch.{hasRoom}
-use Rattle.rows.specs.Kept.{Needs}
-use Rattle.rows.proofs.Kept.{has-needs}
-use Rattle.search.specs.Search.{Fair}
-use Rattle.turns.specs.Firsts.{Roomy}
+use Rattle.numbers.proofs.Numbers.{_then_}
+use Rattle.numbers.proofs.Numbers as numbers
+use Rattle.net.specs.Net.{Net, wholeNet, insideNet, has, mostArcsOf}
+use Rattle.rows.specs.Scratch.{hasLists}
+use Rattle.rows.specs.Kept.{EnoughLists}
+use Rattle.rows.proofs.Kept.{has-lists}
+use Rattle.search.specs.Ints.{Fair}
+use Rattle.turns.specs.Firsts.{EnoughMemory}
 use Rattle.search.proofs.Lists.{has-memory}
-use Rattle.a_star.specs.Promise.{Question, without, Buffers, longEnough, enough, isFair, fairAt, fairBelow, fairGuess, Fine, Promise, short, outside, noSource, noTarget, farGuess}
+use Rattle.a_star.specs.Promise.{Question, without, Buffers, longEnough, enough, isFair, fairAt, fairBelow, fairGuess, Fine, noPath, table, Promise}
 use Rattle.a_star.specs.Parts.{questionNo, refusalNo}
 
 -- ---- the heuristic
@@ -126,8 +128,8 @@ module _ (g : Net ℤ) (q : Question) where
 pub record Lengths (m a : ℕ) (h : List ℤ) (b : Buffers) : Type 0 where
   pub guess : m ≤ length h
   pub path : m ≤ length (b .path)
-  pub rows : Needs m a (b .scratch .rows)
-  pub memory : Roomy m (b .scratch .memory)
+  pub rows : EnoughLists m a (b .scratch .rows)
+  pub memory : EnoughMemory m (b .scratch .memory)
 
 -- what the test of them says
 pub lengths : (m a : ℕ) (h : List ℤ) (b : Buffers) → longEnough m a h b ≡ true → Lengths m a h b
@@ -138,8 +140,8 @@ lengths m a h b e =
     record {
       guess = leb-true _ _ (and-left (leb m (length h)) _ e);
       path = leb-true _ _ (and-left (leb m (length (b .path))) _ e1);
-      rows = has-needs m a (b .scratch .rows) (and-left (hasRoom m a (b .scratch .rows)) _ e2);
-      memory = has-memory m (b .scratch .memory) (and-right (hasRoom m a (b .scratch .rows)) _ e2);
+      rows = has-lists m a (b .scratch .rows) (and-left (hasLists m a (b .scratch .rows)) _ e2);
+      memory = has-memory m (b .scratch .memory) (and-right (hasLists m a (b .scratch .rows)) _ e2);
     }
 
 -- and the heuristic
@@ -154,9 +156,9 @@ module _ (g : Net ℤ) (q : Question) (b : Buffers) where
   over-limits e = rw e
 
   -- the test of the lengths, which said r
-  module _ (e : wholeNet g ≡ true) {a : ℕ} {r : Bool} (said : r ≡ longEnough (g .bound) a (q .guess) b) (room : a ≡ sizeOf g) where
+  module _ (e : wholeNet g ≡ true) {a : ℕ} {r : Bool} (said : r ≡ longEnough (g .bound) a (q .guess) b) (room : a ≡ mostArcsOf g) where
     -- what it said, with a by the map
-    gave : longEnough (g .bound) (sizeOf g) (q .guess) b ≡ r
+    gave : longEnough (g .bound) (mostArcsOf g) (q .guess) b ≡ r
     gave = ap (λ (x : ℕ). longEnough (g .bound) x (q .guess) b) (sym room) ∙ sym said
 
     -- 1, by a slice
@@ -166,34 +168,20 @@ module _ (g : Net ℤ) (q : Question) (b : Buffers) where
 
     -- then the question decides
     pub asked : {k : ℕ} → r ≡ true → k ≡ questionNo g q → k ≡ refusalNo g q b
-    unfolding refusalNo
+    unfolding refusalNo questionNo
     asked f p = p ∙ rw (e, gave ∙ f)
 
   -- a refusal is what the promise says
   pub refused : (k : ℕ) → k ≡ refusalNo g q b → (k ≡ 0 → ⊥) → Promise g q b b (without k)
-  unfolding refusalNo questionNo
-  refused k p f = go (enough g q b) (insideNet g) (has g (q .source)) (has g (q .target)) (fairGuess g (q .guess)) refl refl refl refl refl
-    where
-      go : (x y s t z : Bool) → enough g q b ≡ x → insideNet g ≡ y → has g (q .source) ≡ s → has g (q .target) ≡ t → fairGuess g (q .guess) ≡ z → Promise g q b b (without k)
-      go false y s t z e i u v w = short (ap without (p ∙ rw e)) e refl
-      go true false s t z e i u v w = outside (ap without (p ∙ rw (e, i))) e i refl
-      go true true false t z e i u v w = noSource (ap without (p ∙ rw (e, i, u))) e i u refl
-      go true true true false z e i u v w = noTarget (ap without (p ∙ rw (e, i, u, v))) e i u v refl
-      go true true true true false e i u v w = farGuess (ap without (p ∙ rw (e, i, u, v, w))) e i u v w refl
-      go true true true true true e i u v w = absurd (f (p ∙ rw (e, i, u, v, w)))
+  unfolding refusalNo
+  refused k p f = record { follows = numbers.refused 5 (table g q b) (noPath b) (refl then refl then refl then refl then refl then tt) k p f }
 
   -- where there is none all is fine
   pub passed : refusalNo g q b ≡ 0 → Fine g q b
-  unfolding refusalNo questionNo
-  passed p = go (enough g q b) (insideNet g) (has g (q .source)) (has g (q .target)) (fairGuess g (q .guess)) refl refl refl refl refl
-    where
-      go : (x y s t z : Bool) → enough g q b ≡ x → insideNet g ≡ y → has g (q .source) ≡ s → has g (q .target) ≡ t → fairGuess g (q .guess) ≡ z → Fine g q b
-      go false y s t z e i u v w = absurd (let h : refusalNo g q b ≡ 1 = rw e in omega (arith, p, h))
-      go true false s t z e i u v w = absurd (let h : refusalNo g q b ≡ 2 = rw (e, i) in omega (arith, p, h))
-      go true true false t z e i u v w = absurd (let h : refusalNo g q b ≡ 3 = rw (e, i, u) in omega (arith, p, h))
-      go true true true false z e i u v w = absurd (let h : refusalNo g q b ≡ 4 = rw (e, i, u, v) in omega (arith, p, h))
-      go true true true true false e i u v w = absurd (let h : refusalNo g q b ≡ 5 = rw (e, i, u, v, w) in omega (arith, p, h))
-      go true true true true true e i u v w = record { enough = e; inside = i; source = u; target = v; fair = w }
+  unfolding refusalNo
+  passed p =
+      let w = numbers.passed 5 (table g q b) (refl then refl then refl then refl then refl then tt) p in
+      record { enough = w .0; inside = w .1 .0; source = w .1 .1 .0; target = w .1 .1 .1 .0; fair = w .1 .1 .1 .1 .0 }
 
 -- what a fine question has
 module _ {g : Net ℤ} {q : Question} {b : Buffers} (w : Fine g q b) where
@@ -202,5 +190,5 @@ module _ {g : Net ℤ} {q : Question} {b : Buffers} (w : Fine g q b) where
   fine-whole = and-left (wholeNet g) _ (w .enough)
 
   -- and each slice is long enough
-  pub fine-long : Lengths (g .bound) (sizeOf g) (q .guess) b
-  fine-long = lengths (g .bound) (sizeOf g) (q .guess) b (and-right (wholeNet g) _ (w .enough))
+  pub fine-long : Lengths (g .bound) (mostArcsOf g) (q .guess) b
+  fine-long = lengths (g .bound) (mostArcsOf g) (q .guess) b (and-right (wholeNet g) _ (w .enough))

@@ -1,39 +1,36 @@
--- The promise of `a_star` settles the answer and each buffer (the pending bag has one end, and one chain leads back from the target), goes by the arcs alone, gives
--- each number exactly when its condition holds, and says of the path what the pending bag's end says.
+-- The promise of `a_star` settles the answer and each buffer (the pending bag has one end, and one chain leads back from the target), goes by the arcs alone, and gives
+-- each number exactly when its row is reached. Behind the tests both 0 and 6 are what the search's end says, so a call is refused with nothing changed or has an outcome.
 -- Assumes nothing.
 use mathlib.Core.Path.{_≡_, refl, sym, ap, _∙_, subst, fun-ext}
 use mathlib.Core.Bool.{Bool, true, false, _&&_}
-use mathlib.Core.List.{List, reverse}
-use mathlib.Core.Logic.{_⊎_, inl, inr, ⊎-elim, _↔_}
+use mathlib.Core.List.{List, [], reverse}
+use mathlib.Core.Logic.{_⊎_, inl, inr, _↔_}
 use mathlib.Core.Option.{Option, none, some}
-use Prim.Native.Nat.{ℕ, zero, suc, _<_}
+use Prim.Native.Nat.{ℕ, zero, suc, _≤_, _<_}
 use native.Mathlib.Omega.{arith}
 use lib.IntN.{ℤ, pos}
 use lib.ListN.{length, getD}
 use Rattle.whole.specs.Zed.{_⊕_}
 use Rattle.whole.proofs.Cases.{clash, other}
-use Rattle.pending.specs.Setting.{Setting, End}
-use Rattle.pending.specs.Setting as Set
-use Rattle.pending.specs.OnePlace.{Cell, begin, Ends, empty, found, wrong, more}
+use Rattle.numbers.specs.Numbers.{here, past, Follows, At, Given, Over}
+use Rattle.numbers.proofs.Numbers.{_then_, is-one, follows-one, exactly, given, follows-over, behind, follows-behind}
+use Rattle.pending.specs.Setting.{End}
 use Rattle.pending.proofs.Ints.{whole-laws}
-use Rattle.pending.proofs.One.{begin-ok, ends-one, ends-map}
-use Rattle.net.specs.Net.{Net, ArcOf, insideNet, has, sizeOf, SameNet}
+use Rattle.pending.proofs.One.{begin-ok, ends-one, ends-map, number-is}
+use Rattle.net.specs.Net.{Net, ArcOf, has, mostArcsOf, SameNet}
 use Rattle.net.proofs.Same.{same-inside, same-size}
-use Rattle.net.proofs.Tests.{Test, fails, holds, test-one}
-use Rattle.a_star.specs.Promise.{Question, Answer, answerOf, without, Buffers, longEnough, enough, isFair, fairAt, fairBelow, fairGuess, Fine, left, searchOf, Says, bad, unreached, reached, Outcome, Promise, short, outside, noSource, noTarget, farGuess, ran}
+use Rattle.a_star.specs.Promise.{Question, Answer, answerOf, without, Buffers, longEnough, enough, isFair, fairAt, fairBelow, fairGuess}
+use Rattle.a_star.specs.Promise.{Fine, left, searchOf, EndsIn, Says, unreached, reached, Outcome, Result, resultOf, noPath, table, Promise}
 use Rattle.a_star.proofs.Path.{passed-one, chain-over, passed-over}
 use Rattle.a_star.proofs.Refusals.{fair-absent, fair-present, fair-stop}
+use Rattle.a_star.proofs.Answers.{end-refused}
 
--- ---- one answer
+-- ---- one outcome
 -- the search has one end
-pub end-one : {Arc : ℕ → ℕ → ℤ → Type 0} (q : Question) {x y : End ℤ} → Ends (searchOf q) Arc (begin (searchOf q)) 0 x → Ends (searchOf q) Arc (begin (searchOf q)) 0 y → x ≡ y
+pub end-one : {Arc : ℕ → ℕ → ℤ → Type 0} (q : Question) {x y : End ℤ} → EndsIn Arc q x → EndsIn Arc q y → x ≡ y
 end-one {Arc} q p r =
     let L = whole-laws (λ d v. d ⊕ getD (q .guess) v (pos 0)) (some (q .target)) (q .source) in
     ends-one (searchOf q) L Arc (begin-ok (searchOf q) L) p r
-
--- 6 is not 0
-six : {A : Type 0} {k : ℕ} → k ≡ 6 → k ≡ 0 → A
-six p z = other 6 0 p z (λ y. omega arith)
 
 -- none is no distance
 nothing : {A : Type 0} {o : Option ℤ} {d : ℤ} → o ≡ none → o ≡ some d → A
@@ -41,19 +38,19 @@ nothing {A} {o} {d} p z = absurd (let k : none ≡ some d = sym p ∙ z in let y
 
 -- what an end says is one answer and one path
 says-one : {Arc : ℕ → ℕ → ℤ → Type 0} {q : Question} {x : End ℤ} {r s : Answer} {l k : List ℕ} → Says Arc q x r l → Says Arc q x s k → (r ≡ s) × (l ≡ k)
-says-one (bad z p i) (bad z′ p′ i′) = (p ∙ sym p′, i ∙ sym i′)
-says-one (bad z p i) (unreached z′ n′ p′ i′) = six z z′
-says-one (bad z p i) (reached z′ d′ n′ c′ p′ i′) = six z z′
-says-one (unreached z n p i) (bad z′ p′ i′) = six z′ z
-says-one (unreached z n p i) (unreached z′ n′ p′ i′) = (p ∙ sym p′, i ∙ sym i′)
-says-one (unreached z n p i) (reached z′ d′ n′ c′ p′ i′) = nothing n n′
-says-one (reached z d n c p i) (bad z′ p′ i′) = six z′ z
-says-one (reached z d n c p i) (unreached z′ n′ p′ i′) = nothing n′ n
-says-one (reached z d n c p i) (reached z′ d′ n′ c′ p′ i′) =
+says-one (unreached n p i) (unreached n′ p′ i′) = (p ∙ sym p′, i ∙ sym i′)
+says-one (unreached n p i) (reached d′ n′ c′ p′ i′) = nothing n n′
+says-one (reached d n c p i) (unreached n′ p′ i′) = nothing n′ n
+says-one {x = x} (reached d n c p i) (reached d′ n′ c′ p′ i′) =
     let k : some d ≡ some d′ = sym n ∙ n′ in
     let e : d ≡ d′ = cc in
     let l = i ∙ (ap reverse (passed-one c c′ refl) ∙ sym i′) in
-    (p ∙ ((λ j. answerOf 0 (e j) (length (l j))) ∙ sym p′), l)
+    (p ∙ ((λ j. answerOf (x .number) (e j) (length (l j))) ∙ sym p′), l)
+
+-- with the end's number
+says-number : {Arc : ℕ → ℕ → ℤ → Type 0} {q : Question} {x : End ℤ} {r : Answer} {l : List ℕ} → Says Arc q x r l → r .number ≡ x .number
+says-number (unreached n p i) = ap (λ (y : Answer). y .number) p
+says-number (reached d n c p i) = ap (λ (y : Answer). y .number) p
 
 -- one answer and one path, whatever the buffers
 pub outcome-path : {Arc : ℕ → ℕ → ℤ → Type 0} {m a : ℕ} {q : Question} {b b′ e f : Buffers} {r s : Answer} (o : Outcome Arc m a q b e r) (u : Outcome Arc m a q b′ f s) → (r ≡ s) × (o .path ≡ u .path)
@@ -63,133 +60,83 @@ outcome-path {Arc} {q = q} {s = s} o u = says-one (o .says) (subst (λ (x : End 
 outcome-one : {Arc : ℕ → ℕ → ℤ → Type 0} {m a : ℕ} {q : Question} {b e f : Buffers} {r s : Answer} → Outcome Arc m a q b e r → Outcome Arc m a q b f s → (r ≡ s) × (e ≡ f)
 outcome-one {Arc} {m} {a} {q} {b} o u = let k = outcome-path o u in (k .0, o .leaves ∙ (ap (left m a b) (k .1) ∙ sym (u .leaves)))
 
--- a search that was run gives 0 or 6
-pub run-number : {Arc : ℕ → ℕ → ℤ → Type 0} {m a : ℕ} {q : Question} {b e : Buffers} {r : Answer} → Outcome Arc m a q b e r → (r .number ≡ 0) ⊎ (r .number ≡ 6)
-run-number {Arc} {q = q} {r = r} o = go (o .says)
-  where
-    go : {x : End ℤ} {l : List ℕ} → Says Arc q x r l → (r .number ≡ 0) ⊎ (r .number ≡ 6)
-    go (bad z p i) = inr (ap (λ (y : Answer). y .number) p)
-    go (unreached z n p i) = inl (ap (λ (y : Answer). y .number) p)
-    go (reached z d n c p i) = inl (ap (λ (y : Answer). y .number) p)
+-- ---- from the outcome to the promise, and back
+-- an end with 6 gives no path
+no-distance : (Arc : ℕ → ℕ → ℤ → Type 0) (q : Question) {x : End ℤ} → EndsIn Arc q x → x .number ≡ 6 → x .dist (q .target) ≡ none
+no-distance Arc q r z = ap (λ (y : End ℤ). y .dist (q .target)) (end-refused r (λ y. other 6 0 z y (λ w. omega arith)) .1)
 
--- a number that is neither
-not-run : {A : Type 0} {Arc : ℕ → ℕ → ℤ → Type 0} {m a : ℕ} {q : Question} {b e : Buffers} {r : Answer} (k : ℕ) → Outcome Arc m a q b e r → r .number ≡ k → (k ≡ 0 → ⊥) → (k ≡ 6 → ⊥) → A
-not-run k o p f h = ⊎-elim (λ z. absurd (f (sym p ∙ z))) (λ z. absurd (h (sym p ∙ z))) (run-number o)
+-- the outcome of a search over the map
+abbrev pub Ran : Net ℤ → Question → Buffers → Buffers → Answer → Type 0
+Ran g q b e r = Outcome (ArcOf g) (g .bound) (mostArcsOf g) q b e r
 
--- a refusal with another number
-not-this : {A : Type 0} {r : Answer} (j k : ℕ) → r ≡ without j → r .number ≡ k → (j ≡ k → ⊥) → A
-not-this j k p z f = other j k (ap (λ (y : Answer). y .number) p) z f
+-- a refusal by a test: no path, and the buffers as lent
+abbrev pub Refused : Buffers → Buffers → Answer → Type 0
+Refused b e r = (1 ≤ r .number) × (r .number ≤ 5) × (resultOf r e ≡ noPath b)
 
-module _ (g : Net ℤ) (q : Question) (b : Buffers) where
-  -- a refusal: the answer, and the buffers as lent
-  abbrev pub Refused : ℕ → Buffers → Answer → Type 0
-  Refused k e r = (r ≡ without k) × (e ≡ b)
+-- behind the tests the promise says an outcome: after 6 one without a path
+run-of : (g : Net ℤ) (q : Question) (b e : Buffers) (r : Answer) → Follows (behind 5 (table g q b)) (resultOf r e) (r .number) → Ran g q b e r
+run-of g q b e r (here y x) =
+    let number : r .number ≡ y .0 .number = x .0 ∙ sym (y .2) in
+    let says : r ≡ without (y .0 .number) = λ j. answerOf (number j) (x .1 j .cost) (x .1 j .length) in
+    record { end = y .0; ends = y .1; path = []; says = unreached (no-distance (ArcOf g) q (y .1) (y .2)) says refl; leaves = ap (λ (z : Result). z .buffers) (x .1) }
+run-of g q b e r (past w (here y x)) = subst (Ran g q b e) (λ j. answerOf (sym (x .0) j) (r .cost) (r .length)) (x .1)
+run-of g q b e r (past w (past y x)) = absurd x
 
-  -- the answer by the first test that fails
-  pub tests :
-      {e : Buffers} {r : Answer} → Promise g q b e r
-      → Test (enough g q b) (Refused 1 e r) (Test (insideNet g) (Refused 2 e r) (Test (has g (q .source)) (Refused 3 e r) (Test (has g (q .target)) (Refused 4 e r)
-      (Test (fairGuess g (q .guess)) (Refused 5 e r) (Outcome (ArcOf g) (g .bound) (sizeOf g) q b e r)))))
-  tests (short p e f) = fails e (p, f)
-  tests (outside p e i f) = holds e (fails i (p, f))
-  tests (noSource p e i s f) = holds e (holds i (fails s (p, f)))
-  tests (noTarget p e i s t f) = holds e (holds i (holds s (fails t (p, f))))
-  tests (farGuess p e i s t h f) = holds e (holds i (holds s (holds t (fails h (p, f)))))
-  tests (ran w o) = holds (w .enough) (holds (w .inside) (holds (w .source) (holds (w .target) (holds (w .fair) o))))
+module _ {g : Net ℤ} {q : Question} {b e : Buffers} where
+  -- an outcome is what the promise says
+  pub ran : {r : Answer} → Fine g q b → Ran g q b e r → Promise g q b e r
+  ran {r} w o = record { follows = past (w .enough) (past (w .inside) (past (w .source) (past (w .target) (past (w .fair) (go (number-is (o .ends))))))) }
+    where
+      is : {k : ℕ} → o .end .number ≡ k → r .number ≡ k
+      is z = says-number (o .says) ∙ z
 
--- the same answer and the same buffers
-same-both : {r s x : Answer} {e f y : Buffers} → (r ≡ x) × (e ≡ y) → (s ≡ x) × (f ≡ y) → (r ≡ s) × (e ≡ f)
-same-both p p′ = (p .0 ∙ sym (p′ .0), p .1 ∙ sym (p′ .1))
+      blank : o .end .number ≡ 6 → Says (ArcOf g) q (o .end) r (o .path) → resultOf r e ≡ noPath (left (g .bound) (mostArcsOf g) b [])
+      blank z (unreached n p i) = λ j. resultOf (p j) ((o .leaves ∙ ap (left (g .bound) (mostArcsOf g) b) i) j)
+      blank z (reached d n c p i) = nothing (no-distance (ArcOf g) q (o .ends) z) n
+
+      go : (o .end .number ≡ 0) ⊎ (o .end .number ≡ 6) → Follows (behind 5 (table g q b)) (resultOf r e) (r .number)
+      go (inl z) =
+          past (λ y. other 6 0 (y .2) (ap (λ (x : End ℤ). x .number) (end-one q (y .1) (o .ends)) ∙ z) (λ k. omega arith))
+          (here tt (is z, subst (Ran g q b e) (λ j. answerOf (is z j) (r .cost) (r .length)) o))
+      go (inr z) = here (o .end, o .ends, z) (is z, blank z (o .says))
+
+  -- where nothing is refused there is an outcome
+  pub outcome-of : {r : Answer} → Promise g q b e r → Fine g q b → Ran g q b e r
+  outcome-of {r} p w = run-of g q b e r (follows-behind 5 (table g q b) (resultOf r e) (r .number) (w .enough then w .inside then w .source then w .target then w .fair then tt) (p .follows))
+
+  -- so what the promise says is a refusal or an outcome
+  pub cases : {r : Answer} → Promise g q b e r → Refused b e r ⊎ (Fine g q b × Ran g q b e r)
+  cases {r} promise = go (promise .follows)
+    where
+      test : (k : ℕ) → 1 ≤ k → k ≤ 5 → (r .number ≡ k) × (resultOf r e ≡ noPath b) → Refused b e r ⊎ (Fine g q b × Ran g q b e r)
+      test k l h x = let n = x .0 in inl (omega (arith, n, l), omega (arith, n, h), x .1)
+
+      go : Follows (table g q b) (resultOf r e) (r .number) → Refused b e r ⊎ (Fine g q b × Ran g q b e r)
+      go (here l x) = test 1 (omega arith) (omega arith) x
+      go (past l (here i x)) = test 2 (omega arith) (omega arith) x
+      go (past l (past i (here s x))) = test 3 (omega arith) (omega arith) x
+      go (past l (past i (past s (here t x)))) = test 4 (omega arith) (omega arith) x
+      go (past l (past i (past s (past t (here h x))))) = test 5 (omega arith) (omega arith) x
+      go (past l (past i (past s (past t (past h f))))) = inr (record { enough = l; inside = i; source = s; target = t; fair = h }, run-of g q b e r f)
 
 module _ {g : Net ℤ} {q : Question} {b : Buffers} where
-  -- the answer and every buffer
+  -- ---- two answers that the promise allows are equal: after 0 one outcome, else the row names what is left
   pub promise-one : {e f : Buffers} {r s : Answer} → Promise g q b e r → Promise g q b f s → (r ≡ s) × (e ≡ f)
-  promise-one p p′ = test-one same-both (test-one same-both (test-one same-both (test-one same-both (test-one same-both outcome-one)))) (tests g q b p) (tests g q b p′)
+  promise-one {e} {f} {r} {s} p p′ =
+      let k = follows-one (table g q b) (resultOf r e) (resultOf s f) (r .number) (s .number)
+      (is-one then is-one then is-one then is-one then is-one then is-one then all then tt) (p .follows) (p′ .follows) in
+      (λ i. answerOf (k .0 i) (k .1 i .cost) (k .1 i .length), λ i. k .1 i .buffers)
+    where
+      all : (x y : Result) → Ran g q b (x .buffers) (answerOf 0 (x .cost) (x .length)) → Ran g q b (y .buffers) (answerOf 0 (y .cost) (y .length)) → x ≡ y
+      all x y o u = let k = outcome-one o u in λ i. resultOf (k .0 i) (k .1 i)
 
-  -- ---- each number, exactly when its condition holds
-  module _ {e : Buffers} {r : Answer} where
-    -- 1: a limit is passed or a slice is too short
-    pub one-exactly : Promise g q b e r → (r .number ≡ 1) ↔ (enough g q b ≡ false)
-    one-exactly (short p e f) = (λ z. e, λ z. ap (λ (y : Answer). y .number) p)
-    one-exactly (outside p e i f) = (λ z. not-this 2 1 p z (λ y. omega arith), λ z. absurd (clash e (z)))
-    one-exactly (noSource p e i s f) = (λ z. not-this 3 1 p z (λ y. omega arith), λ z. absurd (clash e (z)))
-    one-exactly (noTarget p e i s t f) = (λ z. not-this 4 1 p z (λ y. omega arith), λ z. absurd (clash e (z)))
-    one-exactly (farGuess p e i s t h f) = (λ z. not-this 5 1 p z (λ y. omega arith), λ z. absurd (clash e (z)))
-    one-exactly (ran w o) = (λ z. not-run 1 o z (λ y. omega arith) (λ y. omega arith), λ z. absurd (clash (w .enough) (z)))
+  module _ {e : Buffers} {r : Answer} (p : Promise g q b e r) where
+    -- ---- each number exactly when its row is reached, and what is then left
+    pub promise-exactly : (k : ℕ) → (r .number ≡ k) ↔ At k (table g q b)
+    promise-exactly = exactly (table g q b) (resultOf r e) (r .number) (p .follows)
 
-    -- 2: a link names an index that the map has not
-    pub two-exactly : Promise g q b e r → (r .number ≡ 2) ↔ ((enough g q b ≡ true) × (insideNet g ≡ false))
-    two-exactly (short p e f) = (λ z. not-this 1 2 p z (λ y. omega arith), λ z. absurd (clash (z .0) e))
-    two-exactly (outside p e i f) = (λ z. (e, i), λ z. ap (λ (y : Answer). y .number) p)
-    two-exactly (noSource p e i s f) = (λ z. not-this 3 2 p z (λ y. omega arith), λ z. absurd (clash i (z .1)))
-    two-exactly (noTarget p e i s t f) = (λ z. not-this 4 2 p z (λ y. omega arith), λ z. absurd (clash i (z .1)))
-    two-exactly (farGuess p e i s t h f) = (λ z. not-this 5 2 p z (λ y. omega arith), λ z. absurd (clash i (z .1)))
-    two-exactly (ran w o) = (λ z. not-run 2 o z (λ y. omega arith) (λ y. omega arith), λ z. absurd (clash (w .inside) (z .1)))
-
-    -- 3: the source is none
-    pub three-exactly : Promise g q b e r → (r .number ≡ 3) ↔ ((enough g q b ≡ true) × (insideNet g ≡ true) × (has g (q .source) ≡ false))
-    three-exactly (short p e f) = (λ z. not-this 1 3 p z (λ y. omega arith), λ z. absurd (clash (z .0) e))
-    three-exactly (outside p e i f) = (λ z. not-this 2 3 p z (λ y. omega arith), λ z. absurd (clash (z .1) i))
-    three-exactly (noSource p e i s f) = (λ z. (e, i, s), λ z. ap (λ (y : Answer). y .number) p)
-    three-exactly (noTarget p e i s t f) = (λ z. not-this 4 3 p z (λ y. omega arith), λ z. absurd (clash s (z .2)))
-    three-exactly (farGuess p e i s t h f) = (λ z. not-this 5 3 p z (λ y. omega arith), λ z. absurd (clash s (z .2)))
-    three-exactly (ran w o) = (λ z. not-run 3 o z (λ y. omega arith) (λ y. omega arith), λ z. absurd (clash (w .source) (z .2)))
-
-    -- 4: the target is none
-    pub four-exactly : Promise g q b e r → (r .number ≡ 4) ↔ ((enough g q b ≡ true) × (insideNet g ≡ true) × (has g (q .source) ≡ true) × (has g (q .target) ≡ false))
-    four-exactly (short p e f) = (λ z. not-this 1 4 p z (λ y. omega arith), λ z. absurd (clash (z .0) e))
-    four-exactly (outside p e i f) = (λ z. not-this 2 4 p z (λ y. omega arith), λ z. absurd (clash (z .1) i))
-    four-exactly (noSource p e i s f) = (λ z. not-this 3 4 p z (λ y. omega arith), λ z. absurd (clash (z .2) s))
-    four-exactly (noTarget p e i s t f) = (λ z. (e, i, s, t), λ z. ap (λ (y : Answer). y .number) p)
-    four-exactly (farGuess p e i s t h f) = (λ z. not-this 5 4 p z (λ y. omega arith), λ z. absurd (clash t (z .3)))
-    four-exactly (ran w o) = (λ z. not-run 4 o z (λ y. omega arith) (λ y. omega arith), λ z. absurd (clash (w .target) (z .3)))
-
-    -- 5: a heuristic is too far from 0
-    pub five-exactly : Promise g q b e r → (r .number ≡ 5) ↔ ((enough g q b ≡ true) × (insideNet g ≡ true) × (has g (q .source) ≡ true) × (has g (q .target) ≡ true) × (fairGuess g (q .guess) ≡ false))
-    five-exactly (short p e f) = (λ z. not-this 1 5 p z (λ y. omega arith), λ z. absurd (clash (z .0) e))
-    five-exactly (outside p e i f) = (λ z. not-this 2 5 p z (λ y. omega arith), λ z. absurd (clash (z .1) i))
-    five-exactly (noSource p e i s f) = (λ z. not-this 3 5 p z (λ y. omega arith), λ z. absurd (clash (z .2) s))
-    five-exactly (noTarget p e i s t f) = (λ z. not-this 4 5 p z (λ y. omega arith), λ z. absurd (clash (z .3) t))
-    five-exactly (farGuess p e i s t h f) = (λ z. (e, i, s, t, h), λ z. ap (λ (y : Answer). y .number) p)
-    five-exactly (ran w o) = (λ z. not-run 5 o z (λ y. omega arith) (λ y. omega arith), λ z. absurd (clash (w .fair) (z .4)))
-
-    -- 0 or 6 exactly where nothing is refused
-    pub run-exactly : Promise g q b e r → ((r .number ≡ 0) ⊎ (r .number ≡ 6)) ↔ Fine g q b
-    run-exactly (short p e f) = (⊎-elim (λ z. not-this 1 0 p z (λ y. omega arith)) (λ z. not-this 1 6 p z (λ y. omega arith)), λ w. absurd (clash (w .enough) e))
-    run-exactly (outside p e i f) = (⊎-elim (λ z. not-this 2 0 p z (λ y. omega arith)) (λ z. not-this 2 6 p z (λ y. omega arith)), λ w. absurd (clash (w .inside) i))
-    run-exactly (noSource p e i s f) = (⊎-elim (λ z. not-this 3 0 p z (λ y. omega arith)) (λ z. not-this 3 6 p z (λ y. omega arith)), λ w. absurd (clash (w .source) s))
-    run-exactly (noTarget p e i s t f) = (⊎-elim (λ z. not-this 4 0 p z (λ y. omega arith)) (λ z. not-this 4 6 p z (λ y. omega arith)), λ w. absurd (clash (w .target) t))
-    run-exactly (farGuess p e i s t h f) = (⊎-elim (λ z. not-this 5 0 p z (λ y. omega arith)) (λ z. not-this 5 6 p z (λ y. omega arith)), λ w. absurd (clash (w .fair) h))
-    run-exactly (ran w o) = (λ z. w, λ v. run-number o)
-
--- an end with 6 is that of a cost below zero
-six-end : {S : Setting ℤ ℤ} {Arc : ℕ → ℕ → ℤ → Type 0} {s : ℕ → Cell ℤ} {n : ℕ} {x : End ℤ} → Ends S Arc s n x → x .number ≡ 6 → (k : ℕ) × (x ≡ Set.refused k)
-six-end (empty f) z = absurd (omega (arith, z))
-six-end (found u d p t f) z = absurd (omega (arith, z))
-six-end {n = n} (wrong u d p t f v c a h) z = (suc n, refl)
-six-end (more w r) z = six-end r z
-
--- 6 exactly where the search, run to the target at most, looks at an arc of cost below zero
-pub six-exactly : {g : Net ℤ} {q : Question} {b e : Buffers} {r : Answer} → Promise g q b e r → (r .number ≡ 6) ↔ (Fine g q b × ((k : ℕ) × Ends (searchOf q) (ArcOf g) (begin (searchOf q)) 0 (Set.refused k)))
-six-exactly (short p e f) = (λ z. not-this 1 6 p z (λ y. omega arith), λ z. absurd (clash (z .0 .enough) e))
-six-exactly (outside p e i f) = (λ z. not-this 2 6 p z (λ y. omega arith), λ z. absurd (clash (z .0 .inside) i))
-six-exactly (noSource p e i s f) = (λ z. not-this 3 6 p z (λ y. omega arith), λ z. absurd (clash (z .0 .source) s))
-six-exactly (noTarget p e i s t f) = (λ z. not-this 4 6 p z (λ y. omega arith), λ z. absurd (clash (z .0 .target) t))
-six-exactly (farGuess p e i s t h f) = (λ z. not-this 5 6 p z (λ y. omega arith), λ z. absurd (clash (z .0 .fair) h))
-six-exactly {g} {q} {r = r} (ran w o) = (λ z. (w, forth (o .says) z), λ z. back (o .says) (ap (λ (x : End ℤ). x .number) (end-one q (o .ends) (z .1 .1))))
-  where
-    met : {x : End ℤ} → Ends (searchOf q) (ArcOf g) (begin (searchOf q)) 0 x → x .number ≡ 6 → (k : ℕ) × Ends (searchOf q) (ArcOf g) (begin (searchOf q)) 0 (Set.refused k)
-    met h z = let y = six-end h z in (y .0, subst (λ (x : End ℤ). Ends (searchOf q) (ArcOf g) (begin (searchOf q)) 0 x) (y .1) h)
-
-    forth : {l : List ℕ} → Says (ArcOf g) q (o .end) r l → r .number ≡ 6 → (k : ℕ) × Ends (searchOf q) (ArcOf g) (begin (searchOf q)) 0 (Set.refused k)
-    forth (bad z p i) y = met (o .ends) z
-    forth (unreached z n p i) y = not-this 0 6 p y (λ x. omega arith)
-    forth (reached z d n c p i) y = six y (ap (λ (x : Answer). x .number) p)
-
-    back : {l : List ℕ} → Says (ArcOf g) q (o .end) r l → o .end .number ≡ 6 → r .number ≡ 6
-    back (bad z p i) y = ap (λ (x : Answer). x .number) p
-    back (unreached z n p i) y = six y z
-    back (reached z d n c p i) y = six y z
+    pub promise-given : (k : ℕ) → r .number ≡ k → Given k (table g q b) (resultOf r e)
+    promise-given = given (table g q b) (resultOf r e) (r .number) (p .follows)
 
 -- 5 in other words: an index that the map has with a heuristic outside -2^42 ..= 2^42
 pub far-exactly : (g : Net ℤ) (h : List ℤ) → (fairGuess g h ≡ false) ↔ ((v : ℕ) × (v < g .bound) × (has g v ≡ true) × (isFair (getD h v (pos 0)) ≡ false))
@@ -206,7 +153,8 @@ far-exactly g h = (seek (g .bound), λ w. sym (fair-stop (has g) h (g .bound) (w
     seek zero e = absurd (clash refl e)
     seek (suc m) e = go (fairBelow (has g) h m) refl (seek m)
       where
-        go : (b : Bool) → fairBelow (has g) h m ≡ b → (fairBelow (has g) h m ≡ false → (v : ℕ) × (v < m) × (has g v ≡ true) × (isFair (getD h v (pos 0)) ≡ false)) → (v : ℕ) × (v < suc m) × (has g v ≡ true) × (isFair (getD h v (pos 0)) ≡ false)
+        go : (b : Bool) → fairBelow (has g) h m ≡ b → (fairBelow (has g) h m ≡ false → (v : ℕ) × (v < m) × (has g v ≡ true) × (isFair (getD h v (pos 0)) ≡ false))
+            → (v : ℕ) × (v < suc m) × (has g v ≡ true) × (isFair (getD h v (pos 0)) ≡ false)
         go false p r = let w = r p in (w .0, omega (arith, w .1), w .2, w .3)
         go true p r = let w = found-at m (sym (ap (λ (b : Bool). b && fairAt (has g) h m) p) ∙ e) in (m, omega arith, w .0, w .1)
 
@@ -220,34 +168,37 @@ module _ {g g′ : Net ℤ} (same : SameNet g g′) (q : Question) (b : Buffers)
   same-fair : fairGuess g (q .guess) ≡ fairGuess g′ (q .guess)
   same-fair = λ i. fairBelow (fun-ext (λ v. same .has v) i) (q .guess) (same .bound i)
 
-  -- each arc of the one is an arc of the other
+  -- the same is left
+  same-left : (l : List ℕ) → left (g .bound) (mostArcsOf g) b l ≡ left (g′ .bound) (mostArcsOf g′) b l
+  same-left l = λ i. left (same .bound i) (same-size same i) b l
+
+  -- an end of the one is an end of the other
   over : (u v : ℕ) (c : ℤ) → ArcOf g u v c → ArcOf g′ u v c
   over u v c = same .arcs u v c .0
 
-  -- an end says the same
+  ends-over : {x : End ℤ} → EndsIn (ArcOf g) q x → EndsIn (ArcOf g′) q x
+  ends-over r = ends-map (searchOf q) (ArcOf g) (ArcOf g′) over (λ u v c. same .arcs u v c .1) r
+
+  ends-back : {x : End ℤ} → EndsIn (ArcOf g′) q x → EndsIn (ArcOf g) q x
+  ends-back r = ends-map (searchOf q) (ArcOf g′) (ArcOf g) (λ u v c. same .arcs u v c .1) over r
+
+  -- and says the same
   says-over : {x : End ℤ} {r : Answer} {l : List ℕ} → Says (ArcOf g) q x r l → Says (ArcOf g′) q x r l
-  says-over (bad z p i) = bad z p i
-  says-over (unreached z n p i) = unreached z n p i
-  says-over (reached z d n c p i) = reached z d n (chain-over over c) p (i ∙ ap reverse (sym (passed-over over c)))
+  says-over (unreached n p i) = unreached n p i
+  says-over (reached d n c p i) = reached d n (chain-over over c) p (i ∙ ap reverse (sym (passed-over over c)))
+
+  -- row by row
+  same-table : Over (table g q b) (table g′ q b)
+  same-table =
+      (refl, same-enough, λ y p. p)
+      then (refl, same-inside same, λ y p. p)
+      then (refl, same .has (q .source), λ y p. p)
+      then (refl, same .has (q .target), λ y p. p)
+      then (refl, same-fair, λ y p. p)
+      then (refl, (λ x. (x .0, ends-over (x .1), x .2), λ x. (x .0, ends-back (x .1), x .2)), λ y p. p ∙ ap noPath (same-left []))
+      then (refl, (λ u. u, λ u. u), λ y o. record { end = o .end; ends = ends-over (o .ends); path = o .path; says = says-over (o .says); leaves = o .leaves ∙ same-left (o .path) })
+      then tt
 
   -- the same answer and the same buffers
   pub promise-arcs : {e : Buffers} {r : Answer} → Promise g q b e r → Promise g′ q b e r
-  promise-arcs (short p e f) = short p (sym same-enough ∙ e) f
-  promise-arcs (outside p e i f) = outside p (sym same-enough ∙ e) (sym (same-inside same) ∙ i) f
-  promise-arcs (noSource p e i s f) = noSource p (sym same-enough ∙ e) (sym (same-inside same) ∙ i) (sym (same .has (q .source)) ∙ s) f
-  promise-arcs (noTarget p e i s t f) = noTarget p (sym same-enough ∙ e) (sym (same-inside same) ∙ i) (sym (same .has (q .source)) ∙ s) (sym (same .has (q .target)) ∙ t) f
-  promise-arcs (farGuess p e i s t h f) = farGuess p (sym same-enough ∙ e) (sym (same-inside same) ∙ i) (sym (same .has (q .source)) ∙ s) (sym (same .has (q .target)) ∙ t) (sym same-fair ∙ h) f
-  promise-arcs (ran w o) =
-      ran (record {
-        enough = sym same-enough ∙ w .enough;
-        inside = sym (same-inside same) ∙ w .inside;
-        source = sym (same .has (q .source)) ∙ w .source;
-        target = sym (same .has (q .target)) ∙ w .target;
-        fair = sym same-fair ∙ w .fair;
-      }) (record {
-        end = o .end;
-        ends = ends-map (searchOf q) (ArcOf g) (ArcOf g′) over (λ u v c. same .arcs u v c .1) (o .ends);
-        path = o .path;
-        says = says-over (o .says);
-        leaves = o .leaves ∙ (λ i. left (same .bound i) (same-size same i) b (o .path));
-      })
+  promise-arcs {e} {r} p = record { follows = follows-over (table g q b) (table g′ q b) (resultOf r e) (r .number) same-table (p .follows) }

@@ -8,18 +8,17 @@ use Prim.Native.Nat.{ℕ}
 use native.Mathlib.Omega.{arith}
 use lib.IntN.{ℤ, pos, negsuc}
 use lib.ListN.{length}
-use Rattle.whole.proofs.Cases.{clash}
 use Rattle.walks.specs.Chain.{Chain, source, via, passed}
 use Rattle.pending.specs.Setting.{End}
 use Rattle.pending.specs.Literal as Lit
 use Rattle.pending.specs.Literal.{start, run}
 use Rattle.pending.proofs.Literal.{run-ends}
 use Rattle.table.specs.Links.{present, presentBoth, arcsOf}
-use Rattle.net.specs.Net.{Net, netOf, ArcOf}
+use Rattle.net.specs.Net.{Net, netOf, ArcOf, mostArcsOf}
 use Rattle.rows.specs.Rows.{rowsOf}
-use Rattle.a_star.specs.Promise.{Question, questionOf, Answer, answerOf, Buffers, enough, isFair, fairAt, Fine, searchOf, Says, bad, unreached, reached, Promise, short, outside, noSource, noTarget, farGuess, ran}
+use Rattle.a_star.specs.Promise.{Question, questionOf, Answer, answerOf, Buffers, enough, isFair, fairAt, Fine, searchOf, Says, unreached, reached, Outcome, Promise}
 use Rattle.a_star.specs.Given.{pathIn}
-use Rattle.a_star.proofs.Settles.{end-one}
+use Rattle.a_star.proofs.Settles.{end-one, outcome-of}
 use Rattle.a_star.proofs.Gives.{path-front}
 use Rattle.a_star.proofs.Literal.{literal-exactly}
 
@@ -39,23 +38,21 @@ back-passed {pred = pred} (via u n p k c) (next u′ n′ p′ b) q =
     λ i. q i ∷ r i
 
 -- what the literal bag ends in, with a cost and a way back, is the answer
-pub by-bag : {g : Net ℤ} {q : Question} {b e : Buffers} {r : Answer} → Promise g q b e r → Fine g q b → (x : End ℤ) → Lit.Ends (searchOf q) (rowsOf g) (Lit.start (searchOf q)) x → (d : ℤ) (l : List ℕ) → x .number ≡ 0 → x .dist (q .target) ≡ some d → Back (x .pred) (q .source) (q .target) l
+pub by-bag : {g : Net ℤ} {q : Question} {b e : Buffers} {r : Answer} → Promise g q b e r → Fine g q b → (x : End ℤ) → Lit.Ends (searchOf q) (rowsOf g) (Lit.start (searchOf q)) x → (d : ℤ) (l : List ℕ)
+    → x .number ≡ 0 → x .dist (q .target) ≡ some d → Back (x .pred) (q .source) (q .target) l
     → (r ≡ answerOf 0 d (length (reverse l))) × (pathIn e r ≡ reverse l)
-by-bag (short p e f) w x y d l z n k = absurd (clash (w .enough) e)
-by-bag (outside p e i f) w x y d l z n k = absurd (clash (w .inside) i)
-by-bag (noSource p e i s f) w x y d l z n k = absurd (clash (w .source) s)
-by-bag (noTarget p e i s t f) w x y d l z n k = absurd (clash (w .target) t)
-by-bag (farGuess p e i s t h f) w x y d l z n k = absurd (clash (w .fair) h)
-by-bag {g} {q} {b} {e} {r} (ran v o) w x y d l z n k = go (subst (λ (u : End ℤ). Says (ArcOf g) q u r (o .path)) (end-one q (o .ends) (literal-exactly g q x .1 y)) (o .says))
+by-bag {g} {q} {b} {e} {r} promise w x y d l z n k = go (subst (λ (u : End ℤ). Says (ArcOf g) q u r (o .path)) (end-one q (o .ends) (literal-exactly g q x .1 y)) (o .says))
   where
+    o : Outcome (ArcOf g) (g .bound) (mostArcsOf g) q b e r
+    o = outcome-of promise w
+
     go : Says (ArcOf g) q x r (o .path) → (r ≡ answerOf 0 d (length (reverse l))) × (pathIn e r ≡ reverse l)
-    go (bad z′ p i) = absurd (let j : _≡_ {A = ℕ} 6 0 = sym z′ ∙ z in omega (arith, j))
-    go (unreached z′ n′ p i) = absurd (let j : none ≡ some d = sym n′ ∙ n in let h : _≡_ {A = ℕ} 0 1 = cc in omega arith)
-    go (reached z′ d′ n′ c p i) =
+    go (unreached n′ p i) = absurd (let j : none ≡ some d = sym n′ ∙ n in let h : _≡_ {A = ℕ} 0 1 = cc in omega arith)
+    go (reached d′ n′ c p i) =
         let j : some d′ ≡ some d = sym n′ ∙ n in
         let cost : d′ ≡ d = cc in
         let is : o .path ≡ reverse l = i ∙ ap reverse (back-passed c k refl) in
-        (p ∙ (λ t. answerOf 0 (cost t) (length (is t))), path-front o p ∙ is)
+        (p ∙ (λ t. answerOf (z t) (cost t) (length (is t))), path-front o p ∙ is)
 
 -- ---- S7 and S8
 -- their map

@@ -7,29 +7,29 @@ use Prim.Native.Nat.{ℕ, _-_, _≤_, _<_}
 use lib.IntN.{ℤ}
 use lib.Signed.{ltZ}
 use lib.ListN.{length, getD, take}
+use Rattle.numbers.specs.Numbers.{firstNo}
 use Rattle.clean.specs.Fill.{filled}
 use Rattle.clean.specs.None.{noneI64, noneU32}
 use Rattle.pending.specs.Setting.{End}
-use Rattle.pending.specs.OnePlace.{begin, Ends}
 use Rattle.net.specs.Net.{Net, netOf, insideNet, has}
-use Rattle.rows.specs.Kept.{KeptLists, Needs}
+use Rattle.rows.specs.Kept.{KeptLists, EnoughLists}
 use Rattle.turns.specs.Memory.{Shows}
-use Rattle.turns.specs.Firsts.{firsts, Roomy, KeptMemory}
-use Rattle.a_star.specs.Promise.{Question, Answer, answerOf, without, Scratch, Buffers, enough, fairGuess, Fine, atFront, searchOf}
+use Rattle.turns.specs.Firsts.{firsts, EnoughMemory, KeptMemory}
+use Rattle.a_star.specs.Promise.{Question, Answer, answerOf, without, Scratch, Buffers, fairGuess, Fine, atFront, EndsIn, table}
 use Rattle.a_star.specs.Trail.{trail, GoesBack}
 
 -- refusals 2 to 5 in this order, else 0
 unfoldable pub questionNo : Net ℤ → Question → ℕ
 questionNo g q = cond (insideNet g) (cond (has g (q .source)) (cond (has g (q .target)) (cond (fairGuess g (q .guess)) 0 5) 4) 3) 2
 
--- refusal 1 before them
+-- refusals 1 to 5 in the table's order, else 0
 unfoldable pub refusalNo : Net ℤ → Question → Buffers → ℕ
-refusalNo g q b = cond (enough g q b) (questionNo g q) 1
+refusalNo g q b = firstNo 5 (table g q b)
 
 -- the scratch is as long as the part used
-pub record Room (m a : ℕ) (s : Scratch) : Type 0 where
-  pub rows : Needs m a (s .rows)
-  pub memory : Roomy m (s .memory)
+pub record EnoughScratch (m a : ℕ) (s : Scratch) : Type 0 where
+  pub rows : EnoughLists m a (s .rows)
+  pub memory : EnoughMemory m (s .memory)
 
 -- what a table must be before it is solved: by some marks it is not refused
 pub record Ripe (m n : ℕ) (d : Bool) (xs ys : List ℕ) (cs : List ℤ) (q : Question) (b : Buffers) : Type 0 where
@@ -44,7 +44,7 @@ pub record CanSeek (m n : ℕ) (d : Bool) (xs ys : List ℕ) (cs : List ℤ) (q 
 -- the search is over: its end, which the lists show, and the rest of each list as before
 pub record Sought (Arc : ℕ → ℕ → ℤ → Type 0) (m a : ℕ) (q : Question) (s t : Scratch) (number : ℕ) : Type 0 where
   pub end : End ℤ
-  pub ends : Ends (searchOf q) Arc (begin (searchOf q)) 0 end
+  pub ends : EndsIn Arc q end
   pub is : number ≡ end .number
   pub shows : number ≡ 0 → Shows noneI64 end (firsts m (t .memory))
   pub rows : KeptLists m a (s .rows) (t .rows)
@@ -71,4 +71,5 @@ pathBack m ps s t = trail (take m ps) s (m - 1) t
 pub data Read (number m s t : ℕ) (ds : List ℤ) (ps l l′ : List ℕ) (r : Answer) : Type 0 where
   refused : (number ≡ 0 → ⊥) → r ≡ without number → l′ ≡ filled m noneU32 l → Read number m s t ds ps l l′ r
   nowhere : number ≡ 0 → given ds t ≡ false → r ≡ without 0 → l′ ≡ filled m noneU32 l → Read number m s t ds ps l l′ r
-  found : number ≡ 0 → given ds t ≡ true → r ≡ answerOf 0 (getD ds t noneI64) (length (pathBack m ps s t)) → l′ ≡ atFront (pathBack m ps s t) (filled m noneU32 l) → Read number m s t ds ps l l′ r
+  found : number ≡ 0 → given ds t ≡ true → r ≡ answerOf 0 (getD ds t noneI64) (length (pathBack m ps s t))
+      → l′ ≡ atFront (pathBack m ps s t) (filled m noneU32 l) → Read number m s t ds ps l l′ r

@@ -1,23 +1,24 @@
 -- What `a_star` promises.
 -- Assumes nothing.
 use mathlib.Core.Path.{_≡_}
-use mathlib.Core.Bool.{Bool, true, false, not, _&&_, _||_}
-use mathlib.Core.List.{List, [], _++_, reverse}
+use mathlib.Core.Bool.{Bool, true, not, _&&_, _||_}
+use mathlib.Core.List.{List, [], _∷_, _++_, reverse}
 use mathlib.Core.Option.{none, some}
 use Prim.Native.Nat.{ℕ, zero, suc, _-_, _^_}
 use lib.Dec.{leb}
 use lib.IntN.{ℤ, pos, negsuc}
 use lib.Signed.{leZ}
 use lib.ListN.{length, getD, drop}
+use Rattle.numbers.specs.Numbers.{Row, row, done, fails, holds, Follows}
 use Rattle.clean.specs.Fill.{filled}
 use Rattle.clean.specs.None.{noneI64, noneU32}
 use Rattle.walks.specs.Chain.{Chain, passed}
 use Rattle.pending.specs.Setting.{Setting, End}
 use Rattle.pending.specs.OnePlace.{begin, Ends}
 use Rattle.pending.specs.Ints.{aStar}
-use Rattle.net.specs.Net.{Net, ArcOf, wholeNet, insideNet, has, sizeOf}
+use Rattle.net.specs.Net.{Net, ArcOf, wholeNet, insideNet, has, mostArcsOf}
 use Rattle.rows.specs.Rows.{Lists, listsOf}
-use Rattle.rows.specs.Scratch.{hasRoom, wiped}
+use Rattle.rows.specs.Scratch.{hasLists, wiped}
 use Rattle.turns.specs.Memory.{Memory, memoryOf}
 use Rattle.search.specs.Lists.{hasMemory, wipedMemory}
 
@@ -66,11 +67,11 @@ buffersOf l o h w d p q i k = record { path = l; scratch = scratchOf o h w d p q
 -- ---- the refusals
 -- is each slice as long as its part used? Of scratch that is 6m + 1 + 2a entries
 unfoldable pub longEnough : ℕ → ℕ → List ℤ → Buffers → Bool
-longEnough m a h b = leb m (length h) && (leb m (length (b .path)) && (hasRoom m a (b .scratch .rows) && hasMemory m (b .scratch .memory)))
+longEnough m a h b = leb m (length h) && (leb m (length (b .path)) && (hasLists m a (b .scratch .rows) && hasMemory m (b .scratch .memory)))
 
 -- nothing that refusal 1 names
 abbrev pub enough : Net ℤ → Question → Buffers → Bool
-enough g q b = wholeNet g && longEnough (g .bound) (sizeOf g) (q .guess) b
+enough g q b = wholeNet g && longEnough (g .bound) (mostArcsOf g) (q .guess) b
 
 -- is a heuristic within -2^42 ..= 2^42?
 unfoldable pub isFair : ℤ → Bool
@@ -115,35 +116,61 @@ left m a b l = record { path = atFront l (filled m noneU32 (b .path)); scratch =
 abbrev pub searchOf : Question → Setting ℤ ℤ
 searchOf q = aStar (λ v. getD (q .guess) v (pos 0)) (q .source) (q .target)
 
--- what the search's end x says: the answer r, and the path l by the predecessors, its first index first
+-- what the pending bag ends in, for the question, over the arcs
+abbrev pub EndsIn : (ℕ → ℕ → ℤ → Type 0) → Question → End ℤ → Type 0
+EndsIn Arc q x = Ends (searchOf q) Arc (begin (searchOf q)) 0 x
+
+-- what the search's end x says: the answer r, with its number, and the path l by the predecessors, its first index first
 pub data Says (Arc : ℕ → ℕ → ℤ → Type 0) (q : Question) (x : End ℤ) (r : Answer) (l : List ℕ) : Type 0 where
-  -- 6: a cost below zero on an arc looked at; blank
-  bad : x .number ≡ 6 → r ≡ without 6 → l ≡ [] → Says Arc q x r l
-  -- 0: the target has no distance; blank
-  unreached : x .number ≡ 0 → x .dist (q .target) ≡ none → r ≡ without 0 → l ≡ [] → Says Arc q x r l
-  -- 0: the cost is the target's distance, and the path goes back from the target to the source
-  reached : x .number ≡ 0 → (d : ℤ) → x .dist (q .target) ≡ some d → (c : Chain Arc (q .source) (x .dist) (x .pred) (q .target)) → r ≡ answerOf 0 d (length l) → l ≡ reverse (passed c) → Says Arc q x r l
+  -- the target has no distance, as at each end with 6: cost none, and no path
+  unreached : x .dist (q .target) ≡ none → r ≡ without (x .number) → l ≡ [] → Says Arc q x r l
+  -- the cost is the target's distance, and the path goes back from the target to the source
+  reached : (d : ℤ) → x .dist (q .target) ≡ some d → (c : Chain Arc (q .source) (x .dist) (x .pred) (q .target))
+      → r ≡ answerOf (x .number) d (length l) → l ≡ reverse (passed c) → Says Arc q x r l
 
 -- the search was run: what it ends in, what that says, and what is left in the buffers
 pub record Outcome (Arc : ℕ → ℕ → ℤ → Type 0) (m a : ℕ) (q : Question) (b e : Buffers) (r : Answer) : Type 0 where
   pub end : End ℤ
-  pub ends : Ends (searchOf q) Arc (begin (searchOf q)) 0 end
+  pub ends : EndsIn Arc q end
   pub path : List ℕ
   pub says : Says Arc q end r path
   pub leaves : e ≡ left m a b path
 
--- the answer r and the buffers e that the call leaves, of the map g, the question q and the buffers b that it was lent. Of leastness it says nothing: with the arcs
--- 0→1 5, 0→2 6, 2→1 −3, heuristic 0 and target 1 it gives 0 with cost 5, though 3 is least, since the arc below zero is not looked at
-pub data Promise (g : Net ℤ) (q : Question) (b e : Buffers) (r : Answer) : Type 0 where
-  -- 1: a limit is passed, or a lent slice is shorter than the part used; untouched
-  short : r ≡ without 1 → enough g q b ≡ false → e ≡ b → Promise g q b e r
-  -- 2: a link names an index at or above m, or absent; untouched
-  outside : r ≡ without 2 → enough g q b ≡ true → insideNet g ≡ false → e ≡ b → Promise g q b e r
-  -- 3: the source is absent or at or above m; untouched
-  noSource : r ≡ without 3 → enough g q b ≡ true → insideNet g ≡ true → has g (q .source) ≡ false → e ≡ b → Promise g q b e r
-  -- 4: the target is; untouched
-  noTarget : r ≡ without 4 → enough g q b ≡ true → insideNet g ≡ true → has g (q .source) ≡ true → has g (q .target) ≡ false → e ≡ b → Promise g q b e r
-  -- 5: some index that the map has has a heuristic outside -2^42 ..= 2^42; untouched
-  farGuess : r ≡ without 5 → enough g q b ≡ true → insideNet g ≡ true → has g (q .source) ≡ true → has g (q .target) ≡ true → fairGuess g (q .guess) ≡ false → e ≡ b → Promise g q b e r
-  -- 0 or 6: as the search ends
-  ran : Fine g q b → Outcome (ArcOf g) (g .bound) (sizeOf g) q b e r → Promise g q b e r
+-- what a call leaves: the cost and how many indices the path has, both returned beside the number, and the buffers
+pub record Result : Type 0 where
+  pub cost : ℤ
+  pub length : ℕ
+  pub buffers : Buffers
+
+-- the same, of the answer and the buffers
+abbrev pub resultOf : Answer → Buffers → Result
+resultOf r e = record { cost = r .cost; length = r .length; buffers = e }
+
+-- without a path: cost none, length 0
+abbrev pub noPath : Buffers → Result
+noPath e = record { cost = noneI64; length = 0; buffers = e }
+
+-- the table: what the call leaves is y, of the map g, the question q and the buffers b that it was lent. Of leastness it says nothing:
+-- with the arcs 0→1 5, 0→2 6, 2→1 −3, heuristic 0 and target 1 it gives 0 with cost 5, though 3 is least, since the arc below zero is not
+-- looked at
+abbrev pub table : Net ℤ → Question → Buffers → List (Row Result)
+table g q b =
+    -- 1: a limit is passed, or a lent slice is shorter than the part used; untouched
+    row 1 (fails (enough g q b)) (λ y. y ≡ noPath b)
+    -- 2: a link names an index at or above m, or absent; untouched
+    ∷ row 2 (fails (insideNet g)) (λ y. y ≡ noPath b)
+    -- 3: the source is absent or at or above m; untouched
+    ∷ row 3 (fails (has g (q .source))) (λ y. y ≡ noPath b)
+    -- 4: the target is; untouched
+    ∷ row 4 (fails (has g (q .target))) (λ y. y ≡ noPath b)
+    -- 5: some index that the map has has a heuristic outside -2^42 ..= 2^42; untouched
+    ∷ row 5 (fails (fairGuess g (q .guess))) (λ y. y ≡ noPath b)
+    -- 6: the pending bag looks at an arc of cost below zero; blank, a path of no index
+    ∷ row 6 (holds ((x : End ℤ) × EndsIn (ArcOf g) q x × (x .number ≡ 6))) (λ y. y ≡ noPath (left (g .bound) (mostArcsOf g) b []))
+    -- 0: what the pending bag ends in says the cost and the path
+    ∷ done (λ y. Outcome (ArcOf g) (g .bound) (mostArcsOf g) q b (y .buffers) (answerOf 0 (y .cost) (y .length)))
+    ∷ []
+
+-- the answer r and the buffers e that the call leaves are those of the first row whose condition holds
+pub record Promise (g : Net ℤ) (q : Question) (b e : Buffers) (r : Answer) : Type 0 where
+  pub follows : Follows (table g q b) (resultOf r e) (r .number)

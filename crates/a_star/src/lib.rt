@@ -7,13 +7,14 @@ ghost use lib.IntN.{pos};
 ghost use lib.ListN.{length, getD};
 ghost use Rattle.table.specs.Links.{present, links, Arc};
 ghost use Rattle.clean.specs.None.{noneI64};
-ghost use Rattle.net.specs.Net.{netOf, wholeNet, arcRoom};
-ghost use Rattle.a_star.specs.Promise.{Promise, Outcome, questionOf, answerOf, buffersOf, scratchOf, longEnough, isFair, fairAt, fairBelow, atFront, wipedAll};
+ghost use Rattle.net.specs.Net.{netOf, wholeNet, mostArcs};
+ghost use Rattle.a_star.specs.Promise.{Promise, Outcome, questionOf, answerOf, buffersOf, scratchOf};
+ghost use Rattle.a_star.specs.Promise.{longEnough, isFair, fairAt, fairBelow, atFront, wipedAll};
 ghost use Rattle.a_star.specs.Trail.{trail, GoesBack};
-ghost use Rattle.a_star.specs.Parts.{questionNo, refusalNo, Room, CanSeek, Ripe, Sought, given, Told, Read};
+ghost use Rattle.a_star.specs.Parts.{questionNo, refusalNo, EnoughScratch, CanSeek, Ripe, Sought, given, Told, Read};
 
 // The number that comes back, the cost, and how many indices the path has.
-pub struct Reached {
+pub struct Found {
     pub number: usize,
     pub cost: i64,
     pub length: usize,
@@ -68,11 +69,14 @@ fn long_enough(
     weights: &[i64],
     dist: &[i64],
     preds: &[u32],
-    heap: &[usize],
-    places: &[usize],
+    peaks: &[usize],
+    words: &[usize],
     keys: &[i64],
 ) -> bool
-    ensures { λ r. ⌜ r ≡ longEnough m a (now (guess .entry)) (buffersOf (now (path .entry)) (now (offsets .entry)) (now (heads .entry)) (now (weights .entry)) (now (dist .entry)) (now (preds .entry)) (now (heap .entry)) (now (places .entry)) (now (keys .entry))) ⌝ }
+    ensures { λ r.
+        let lent = buffersOf (now (path .entry)) (now (offsets .entry)) (now (heads .entry)) (now (weights .entry)) (now (dist .entry))
+        (now (preds .entry)) (now (peaks .entry)) (now (words .entry)) (now (keys .entry)) in
+        ⌜ r ≡ longEnough m a (now (guess .entry)) lent ⌝ }
 {
     if guess.len() < m {
         return false;
@@ -80,13 +84,14 @@ fn long_enough(
     if path.len() < m {
         return false;
     }
-    if !rows::has_room(m, a, offsets, heads, weights) {
+    if !rows::has_lists(m, a, offsets, heads, weights) {
         return false;
     }
-    search::has_memory(m, dist, preds, heap, places, keys)
+    search::ints::has_memory(m, dist, preds, peaks, words, keys)
 }
 
-// 2 where a link names an index that the map has not, 3 where the source is one, 4 where the target is, 5 where a heuristic is too far from 0, else 0.
+// 2 where a link names an index that the map has not, 3 where the source is one,
+// 4 where the target is, 5 where a heuristic is too far from 0, else 0.
 fn question(
     map: Map,
     marks: &[u8],
@@ -99,7 +104,9 @@ fn question(
 ) -> usize
     requires { ⌜ wholeNet (netOf (map .bound) (map .count) (map .directed) (now marks) (now from) (now to) (now costs)) ≡ true ⌝ }
     requires { ⌜ map .bound ≤ length (now guess) ⌝ }
-    ensures { λ r. ⌜ r ≡ questionNo (netOf (map .bound) (map .count) (map .directed) (now (marks .entry)) (now (from .entry)) (now (to .entry)) (now (costs .entry))) (questionOf source target (now (guess .entry))) ⌝ }
+    ensures { λ r. ⌜ r ≡ questionNo
+        (netOf (map .bound) (map .count) (map .directed) (now (marks .entry)) (now (from .entry)) (now (to .entry)) (now (costs .entry)))
+        (questionOf source target (now (guess .entry))) ⌝ }
 {
     if !net::inside(map, marks, from, to, costs) {
         return 2;
@@ -132,16 +139,21 @@ fn refusal(
     weights: &[i64],
     dist: &[i64],
     preds: &[u32],
-    heap: &[usize],
-    places: &[usize],
+    peaks: &[usize],
+    words: &[usize],
     keys: &[i64],
 ) -> usize
-    ensures { λ r. ⌜ r ≡ refusalNo (netOf (map .bound) (map .count) (map .directed) (now (marks .entry)) (now (from .entry)) (now (to .entry)) (now (costs .entry))) (questionOf source target (now (guess .entry))) (buffersOf (now (path .entry)) (now (offsets .entry)) (now (heads .entry)) (now (weights .entry)) (now (dist .entry)) (now (preds .entry)) (now (heap .entry)) (now (places .entry)) (now (keys .entry))) ⌝ }
+    ensures { λ r.
+        let net = netOf (map .bound) (map .count) (map .directed) (now (marks .entry)) (now (from .entry)) (now (to .entry))
+        (now (costs .entry)) in
+        let lent = buffersOf (now (path .entry)) (now (offsets .entry)) (now (heads .entry)) (now (weights .entry)) (now (dist .entry))
+        (now (preds .entry)) (now (peaks .entry)) (now (words .entry)) (now (keys .entry)) in
+        ⌜ r ≡ refusalNo net (questionOf source target (now (guess .entry))) lent ⌝ }
 {
     if !net::whole(map, marks, from, to, costs) {
         return 1;
     }
-    let a = net::arc_room(map.directed, map.count);
+    let a = net::most_arcs(map.directed, map.count);
     if !long_enough(
         map.bound,
         a,
@@ -152,8 +164,8 @@ fn refusal(
         weights,
         dist,
         preds,
-        heap,
-        places,
+        peaks,
+        words,
         keys,
     ) {
         return 1;
@@ -175,15 +187,24 @@ fn seek(
     weights: &mut [i64],
     dist: &mut [i64],
     preds: &mut [u32],
-    heap: &mut [usize],
-    places: &mut [usize],
+    peaks: &mut [usize],
+    words: &mut [usize],
     keys: &mut [i64],
 ) -> usize
-    requires { ⌜ CanSeek (map .bound) (map .count) (map .directed) (now from) (now to) (now costs) (questionOf source target (now guess)) (scratchOf (now offsets) (now heads) (now weights) (now dist) (now preds) (now heap) (now places) (now keys)) ⌝ }
-    ensures { λ r. ⌜ Sought (Arc (map .directed) (links (map .count) (now (from .entry)) (now (to .entry)) (now (costs .entry)))) (map .bound) (arcRoom (map .directed) (map .count)) (questionOf source target (now (guess .entry))) (scratchOf (now (offsets .entry)) (now (heads .entry)) (now (weights .entry)) (now (dist .entry)) (now (preds .entry)) (now (heap .entry)) (now (places .entry)) (now (keys .entry))) (scratchOf (now (offsets .exit)) (now (heads .exit)) (now (weights .exit)) (now (dist .exit)) (now (preds .exit)) (now (heap .exit)) (now (places .exit)) (now (keys .exit))) r ⌝ }
+    requires { ⌜ CanSeek (map .bound) (map .count) (map .directed) (now from) (now to) (now costs) (questionOf source target (now guess))
+        (scratchOf (now offsets) (now heads) (now weights) (now dist) (now preds) (now peaks) (now words) (now keys)) ⌝ }
+    ensures { λ r.
+        let lent = scratchOf (now (offsets .entry)) (now (heads .entry)) (now (weights .entry)) (now (dist .entry)) (now (preds .entry))
+        (now (peaks .entry)) (now (words .entry)) (now (keys .entry)) in
+        let left = scratchOf (now (offsets .exit)) (now (heads .exit)) (now (weights .exit)) (now (dist .exit)) (now (preds .exit))
+        (now (peaks .exit)) (now (words .exit)) (now (keys .exit)) in
+        ⌜ Sought
+        (Arc (map .directed) (links (map .count) (now (from .entry)) (now (to .entry)) (now (costs .entry)))) (map .bound)
+        (mostArcs (map .directed) (map .count))
+        (questionOf source target (now (guess .entry))) lent left r ⌝ }
 {
     rows::position_csr(map, from, to, costs, offsets, heads, weights);
-    let found = search::run(
+    let found = search::ints::run(
         map.bound,
         source,
         target,
@@ -193,14 +214,15 @@ fn seek(
         guess,
         dist,
         preds,
-        heap,
-        places,
+        peaks,
+        words,
         keys,
     );
     found.number
 }
 
-// Writes the path from the source to v at the front of `path`: goes back by at most `left` arcs, and writes on return. Gives how many indices it has.
+// Writes the path from the source to v at the front of `path`:
+// goes back by at most `left` arcs, and writes on return. Gives how many indices it has.
 fn write_path(preds: &[u32], source: usize, v: usize, left: usize, path: &mut [u32]) -> usize
     requires { ⌜ length (now preds) ≤ 1024 ⌝ }
     requires { ⌜ GoesBack (now preds) source left v ⌝ }
@@ -242,20 +264,21 @@ fn answer(
     dist: &[i64],
     preds: &[u32],
     path: &mut [u32],
-) -> Reached
+) -> Found
     requires { ⌜ Told number m source target (now dist) (now preds) (now path) ⌝ }
-    ensures { λ r. ⌜ Read number m source target (now (dist .entry)) (now (preds .entry)) (now (path .entry)) (now (path .exit)) (answerOf (r .number) (r .cost) (r .length)) ⌝ }
+    ensures { λ r. ⌜ Read number m source target (now (dist .entry)) (now (preds .entry)) (now (path .entry)) (now (path .exit))
+        (answerOf (r .number) (r .cost) (r .length)) ⌝ }
 {
     clean::blank_u32(path, m);
     if number != 0 {
-        return Reached {
+        return Found {
             number: number,
             cost: clean::NONE_I64,
             length: 0,
         };
     }
     if !has_distance(dist, target) {
-        return Reached {
+        return Found {
             number: 0,
             cost: clean::NONE_I64,
             length: 0,
@@ -263,7 +286,7 @@ fn answer(
     }
     let n = write_path(&preds[..m], source, target, m - 1, path);
     let d = distance(dist, target);
-    Reached {
+    Found {
         number: 0,
         cost: d,
         length: n,
@@ -279,15 +302,21 @@ fn wipe(
     weights: &mut [i64],
     dist: &mut [i64],
     preds: &mut [u32],
-    heap: &mut [usize],
-    places: &mut [usize],
+    peaks: &mut [usize],
+    words: &mut [usize],
     keys: &mut [i64],
 )
-    requires { ⌜ Room m a (scratchOf (now offsets) (now heads) (now weights) (now dist) (now preds) (now heap) (now places) (now keys)) ⌝ }
-    ensures { λ r. ⌜ scratchOf (now (offsets .exit)) (now (heads .exit)) (now (weights .exit)) (now (dist .exit)) (now (preds .exit)) (now (heap .exit)) (now (places .exit)) (now (keys .exit)) ≡ wipedAll m a (scratchOf (now (offsets .entry)) (now (heads .entry)) (now (weights .entry)) (now (dist .entry)) (now (preds .entry)) (now (heap .entry)) (now (places .entry)) (now (keys .entry))) ⌝ }
+    requires { ⌜ EnoughScratch m a
+        (scratchOf (now offsets) (now heads) (now weights) (now dist) (now preds) (now peaks) (now words) (now keys)) ⌝ }
+    ensures { λ r.
+        let lent = scratchOf (now (offsets .entry)) (now (heads .entry)) (now (weights .entry)) (now (dist .entry)) (now (preds .entry))
+        (now (peaks .entry)) (now (words .entry)) (now (keys .entry)) in
+        let left = scratchOf (now (offsets .exit)) (now (heads .exit)) (now (weights .exit)) (now (dist .exit)) (now (preds .exit))
+        (now (peaks .exit)) (now (words .exit)) (now (keys .exit)) in
+        ⌜ left ≡ wipedAll m a lent ⌝ }
 {
     rows::wipe(m, a, offsets, heads, weights);
-    search::wipe_memory(m, dist, preds, heap, places, keys);
+    search::ints::wipe_memory(m, dist, preds, peaks, words, keys);
 }
 
 // The search, the answer read off its lists, and the scratch wiped.
@@ -305,12 +334,22 @@ fn solve(
     weights: &mut [i64],
     dist: &mut [i64],
     preds: &mut [u32],
-    heap: &mut [usize],
-    places: &mut [usize],
+    peaks: &mut [usize],
+    words: &mut [usize],
     keys: &mut [i64],
-) -> Reached
-    requires { ⌜ Ripe (map .bound) (map .count) (map .directed) (now from) (now to) (now costs) (questionOf source target (now guess)) (buffersOf (now path) (now offsets) (now heads) (now weights) (now dist) (now preds) (now heap) (now places) (now keys)) ⌝ }
-    ensures { λ r. ⌜ Outcome (Arc (map .directed) (links (map .count) (now (from .entry)) (now (to .entry)) (now (costs .entry)))) (map .bound) (arcRoom (map .directed) (map .count)) (questionOf source target (now (guess .entry))) (buffersOf (now (path .entry)) (now (offsets .entry)) (now (heads .entry)) (now (weights .entry)) (now (dist .entry)) (now (preds .entry)) (now (heap .entry)) (now (places .entry)) (now (keys .entry))) (buffersOf (now (path .exit)) (now (offsets .exit)) (now (heads .exit)) (now (weights .exit)) (now (dist .exit)) (now (preds .exit)) (now (heap .exit)) (now (places .exit)) (now (keys .exit))) (answerOf (r .number) (r .cost) (r .length)) ⌝ }
+) -> Found
+    requires { ⌜ Ripe (map .bound) (map .count) (map .directed) (now from) (now to) (now costs) (questionOf source target (now guess))
+        (buffersOf (now path) (now offsets) (now heads) (now weights) (now dist) (now preds) (now peaks) (now words) (now keys)) ⌝ }
+    ensures { λ r.
+        let lent = buffersOf (now (path .entry)) (now (offsets .entry)) (now (heads .entry)) (now (weights .entry)) (now (dist .entry))
+        (now (preds .entry)) (now (peaks .entry)) (now (words .entry)) (now (keys .entry)) in
+        let left = buffersOf (now (path .exit)) (now (offsets .exit)) (now (heads .exit)) (now (weights .exit)) (now (dist .exit))
+        (now (preds .exit)) (now (peaks .exit)) (now (words .exit)) (now (keys .exit)) in
+        ⌜ Outcome
+        (Arc (map .directed) (links (map .count) (now (from .entry)) (now (to .entry)) (now (costs .entry)))) (map .bound)
+        (mostArcs (map .directed) (map .count))
+        (questionOf source target (now (guess .entry))) lent left
+        (answerOf (r .number) (r .cost) (r .length)) ⌝ }
 {
     let number = seek(
         map,
@@ -325,13 +364,13 @@ fn solve(
         weights,
         dist,
         preds,
-        heap,
-        places,
+        peaks,
+        words,
         keys,
     );
     let m = map.bound;
     let given = answer(number, m, source, target, dist, preds, path);
-    let a = net::arc_room(map.directed, map.count);
+    let a = net::most_arcs(map.directed, map.count);
     wipe(
         m,
         a,
@@ -340,8 +379,8 @@ fn solve(
         weights,
         dist,
         preds,
-        heap,
-        places,
+        peaks,
+        words,
         keys,
     );
     given
@@ -363,13 +402,20 @@ pub fn a_star(
     weights: &mut [i64],
     dist: &mut [i64],
     preds: &mut [u32],
-    heap: &mut [usize],
-    places: &mut [usize],
+    peaks: &mut [usize],
+    words: &mut [usize],
     keys: &mut [i64],
-) -> Reached
-    ensures { λ r. ⌜ Promise (netOf (map .bound) (map .count) (map .directed) (now (marks .entry)) (now (from .entry)) (now (to .entry)) (now (costs .entry))) (questionOf source target (now (guess .entry))) (buffersOf (now (path .entry)) (now (offsets .entry)) (now (heads .entry)) (now (weights .entry)) (now (dist .entry)) (now (preds .entry)) (now (heap .entry)) (now (places .entry)) (now (keys .entry))) (buffersOf (now (path .exit)) (now (offsets .exit)) (now (heads .exit)) (now (weights .exit)) (now (dist .exit)) (now (preds .exit)) (now (heap .exit)) (now (places .exit)) (now (keys .exit))) (answerOf (r .number) (r .cost) (r .length)) ⌝ }
+) -> Found
+    ensures { λ r.
+        let net = netOf (map .bound) (map .count) (map .directed) (now (marks .entry)) (now (from .entry)) (now (to .entry))
+        (now (costs .entry)) in
+        let lent = buffersOf (now (path .entry)) (now (offsets .entry)) (now (heads .entry)) (now (weights .entry)) (now (dist .entry))
+        (now (preds .entry)) (now (peaks .entry)) (now (words .entry)) (now (keys .entry)) in
+        let left = buffersOf (now (path .exit)) (now (offsets .exit)) (now (heads .exit)) (now (weights .exit)) (now (dist .exit))
+        (now (preds .exit)) (now (peaks .exit)) (now (words .exit)) (now (keys .exit)) in
+        ⌜ Promise net (questionOf source target (now (guess .entry))) lent left (answerOf (r .number) (r .cost) (r .length)) ⌝ }
 {
-    let no = refusal(
+    let refused = refusal(
         map,
         marks,
         from,
@@ -384,13 +430,13 @@ pub fn a_star(
         weights,
         dist,
         preds,
-        heap,
-        places,
+        peaks,
+        words,
         keys,
     );
-    if no != 0 {
-        return Reached {
-            number: no,
+    if refused != 0 {
+        return Found {
+            number: refused,
             cost: clean::NONE_I64,
             length: 0,
         };
@@ -409,8 +455,8 @@ pub fn a_star(
         weights,
         dist,
         preds,
-        heap,
-        places,
+        peaks,
+        words,
         keys,
     )
 }

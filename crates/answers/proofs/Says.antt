@@ -3,6 +3,7 @@
 -- Assumes nothing.
 use mathlib.Core.Path.{_≡_, ap}
 use mathlib.Core.List.{List}
+use mathlib.Core.Logic.{⊎-elim}
 use Prim.Native.Nat.{ℕ, _+_, _≤_}
 use native.Mathlib.Omega.{arith}
 use borrow.Author.Tests.{eq-eqb, ne-eqb}
@@ -10,13 +11,14 @@ use lib.IntN.{ℤ}
 use lib.ListN.{length, length-append, drop}
 use Rattle.clean.specs.Fill.{filled}
 use Rattle.clean.specs.None.{noneU32}
-use Rattle.net.specs.Net.{Net}
+use Rattle.net.specs.Net.{Net, ArcOf}
 use Rattle.pending.specs.Setting.{End}
 use Rattle.lines.specs.Text.{Printed, decimalText, newlineText}
 use Rattle.lines.proofs.Digits.{decimal-text-length}
 use Rattle.text.specs.Text.{refusedLine, answerText}
 use Rattle.a_star.specs.Promise as star
-use Rattle.answers.specs.Room.{most}
+use Rattle.a_star.proofs.Settles.{cases}
+use Rattle.answers.specs.Output.{most}
 
 module _ (t : List ℕ) {out after : List ℕ} {at r number : ℕ} where
   -- a refusal
@@ -35,21 +37,10 @@ unfolding star.atFront
 path-within l p = omega (arith, length-append l (drop (length l) p))
 
 pub path-fits : {g : Net ℤ} {q : star.Question} {b e : star.Buffers} {r : star.Answer} → star.Promise g q b e r → r .length ≤ length (e .path)
-path-fits {e = e} {r = r} p =
-    go p
+path-fits {g} {q} {b} {e} {r} p =
+    ⊎-elim (λ x. omega (arith, ap (λ (y : star.Result). y .length) (x .2)))
+    (λ x. said (filled (g .bound) noneU32 (b .path)) (ap (λ (y : star.Buffers). y .path) (x .1 .leaves)) (x .1 .says)) (cases p)
   where
-    blank : {k : ℕ} → r ≡ star.without k → r .length ≤ length (e .path)
-    blank q = omega (arith, ap (λ (x : star.Answer). x .length) q)
-
-    said : {Arc : ℕ → ℕ → ℤ → Type 0} {q : star.Question} {x : End ℤ} {l : List ℕ} (p : List ℕ) → e .path ≡ star.atFront l p → star.Says Arc q x r l → r .length ≤ length (e .path)
-    said p w (star.bad n a b) = blank a
-    said p w (star.unreached n d a b) = blank a
-    said {l = l} p w (star.reached n d f c a b) = omega (arith, ap (λ (x : star.Answer). x .length) a, ap length w, path-within l p)
-
-    go : {g : Net ℤ} {q : star.Question} {b : star.Buffers} → star.Promise g q b e r → r .length ≤ length (e .path)
-    go (star.short a h k) = blank a
-    go (star.outside a h i k) = blank a
-    go (star.noSource a h i s k) = blank a
-    go (star.noTarget a h i s t k) = blank a
-    go (star.farGuess a h i s t f k) = blank a
-    go {g} {b = b} (star.ran f o) = said (filled (g .bound) noneU32 (b .path)) (ap (λ (x : star.Buffers). x .path) (o .leaves)) (o .says)
+    said : {x : End ℤ} {l : List ℕ} (p : List ℕ) → e .path ≡ star.atFront l p → star.Says (ArcOf g) q x r l → r .length ≤ length (e .path)
+    said p w (star.unreached d a i) = omega (arith, ap (λ (y : star.Answer). y .length) a)
+    said {l = l} p w (star.reached d f c a i) = omega (arith, ap (λ (y : star.Answer). y .length) a, ap length w, path-within l p)

@@ -19,7 +19,8 @@ use Rattle.dijkstra_path.proofs.Settles as path-laws
 use Rattle.answers.specs.Answers.{Written, Shown, Dijkstra, BellmanFord, AStar, FloydWarshall, Johnson, Hops, DijkstraPath}
 
 -- what settles the number and what is left settles the text
-shown-one : {X : Type 0} {gives : ℕ → X → Type 0} {lines : X → List ℕ} {t t′ : List ℕ} → ((no no′ : ℕ) (x y : X) → gives no x → gives no′ y → (no ≡ no′) × (x ≡ y)) → Shown gives lines t → Shown gives lines t′ → t ≡ t′
+shown-one : {X : Type 0} {gives : ℕ → X → Type 0} {lines : X → List ℕ} {t t′ : List ℕ} → ((number number′ : ℕ) (x y : X) → gives number x → gives number′ y → (number ≡ number′) × (x ≡ y))
+    → Shown gives lines t → Shown gives lines t′ → t ≡ t′
 shown-one one x y = let p = one (x .number) (y .number) (x .left) (y .left) (x .promise) (y .promise) in x .says ∙ rw (p .0, p .1) (sym (y .says))
 
 -- each engine
@@ -46,7 +47,8 @@ module _ {t t′ : List ℕ} where
   dijkstra-path-one = shown-one (λ n n′ x y p q. path-laws.promise-one p q)
 
 -- so what is printed at a place is settled: the bytes and where they end
-pub written-one : {P : List ℕ → Type 0} {out after after′ : List ℕ} {at stop stop′ : ℕ} → ((t t′ : List ℕ) → P t → P t′ → t ≡ t′) → Written P out at after stop → Written P out at after′ stop′ → (after ≡ after′) × (stop ≡ stop′)
+pub written-one : {P : List ℕ → Type 0} {out after after′ : List ℕ} {at stop stop′ : ℕ} → ((t t′ : List ℕ) → P t → P t′ → t ≡ t′) → Written P out at after stop → Written P out at after′ stop′
+    → (after ≡ after′) × (stop ≡ stop′)
 written-one {out = out} {at = at} one x y =
     let e = one (x .text) (y .text) (x .allowed) (y .allowed) in
     (x .printed .bytes ∙ ap (placed out at) e ∙ sym (y .printed .bytes), x .printed .ends ∙ ap (λ (t : List ℕ). at + length t) e ∙ sym (y .printed .ends))

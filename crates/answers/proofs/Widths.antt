@@ -17,7 +17,7 @@ use Rattle.text.specs.Text.{indexText, eachIndex, line, withFields, distanceLin
 use Rattle.text.proofs.Widths.{index-width, distance-line-width, cost-line-width, tree-line-width}
 use Rattle.text.proofs.Lines.{fields-split, entries-width}
 use Rattle.text.proofs.Rows.{rowAt, row-width}
-use Rattle.answers.specs.Room.{most}
+use Rattle.answers.specs.Output.{most}
 
 -- a line of at most w bytes for each index below k that the map has
 each-width : (has : ℕ → Bool) (f : ℕ → List ℕ) (w : ℕ) → ((i : ℕ) → length (f i) ≤ w) → (k : ℕ) → length (eachIndex has f k) ≤ k * w

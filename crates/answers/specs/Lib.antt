@@ -1,2 +1,2 @@
 pub mod Answers
-pub mod Room
+pub mod Output

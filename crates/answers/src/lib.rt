@@ -1,5 +1,5 @@
-// The answer of each engine on a map of at most 64 indices and 512 links: one function asks the question on buffers of its own and prints the answer's lines,
-// or the line of a refusal.
+// The answer of each engine on a map of at most 64 indices and 512 links:
+// one function asks the question on buffers of its own and prints the answer's lines, or the line of a refusal.
 ghost use mathlib.Core.Path.{_≡_};
 ghost use Prim.Native.Nat.{ℕ, _+_, _≤_};
 ghost use lib.ListN.{length};
@@ -7,7 +7,7 @@ ghost use Rattle.lines.specs.Text.{Printed};
 ghost use Rattle.table.specs.Links.{present};
 ghost use Rattle.net.specs.Net.{netOf, netOf64};
 ghost use Rattle.text.specs.Text.{distanceText, indexText, distanceLines, pathLines, rowLines, treeLines, answerText};
-ghost use Rattle.answers.specs.Room.{Fits, most};
+ghost use Rattle.answers.specs.Output.{Fits, most};
 ghost use Rattle.answers.specs.Answers.{Written, Dijkstra, BellmanFord, AStar, FloydWarshall, Johnson, Hops, DijkstraPath};
 use table::Map;
 
@@ -21,7 +21,8 @@ fn say_distances(
     at: usize,
 ) -> usize
     requires { ⌜ (bound ≤ 64) × (bound ≤ length (now marks)) × (bound ≤ length (now dist)) × (at + most ≤ length (now out)) ⌝ }
-    ensures { λ r. ⌜ Printed (now (out .entry)) at (answerText number (distanceLines (present bound (now (marks .entry))) bound (now (dist .entry)))) (now (out .exit)) r ⌝ }
+    ensures { λ r. ⌜ Printed (now (out .entry)) at
+        (answerText number (distanceLines (present bound (now (marks .entry))) bound (now (dist .entry)))) (now (out .exit)) r ⌝ }
     ensures { λ r. ⌜ r ≤ at + most ⌝ }
 {
     if number != 0 {
@@ -52,7 +53,8 @@ fn say_rows(
     at: usize,
 ) -> usize
     requires { ⌜ (bound ≤ 64) × (bound ≤ length (now marks)) × (4096 ≤ length (now matrix)) × (at + most ≤ length (now out)) ⌝ }
-    ensures { λ r. ⌜ Printed (now (out .entry)) at (answerText number (rowLines distanceText (present bound (now (marks .entry))) bound (now (matrix .entry)))) (now (out .exit)) r ⌝ }
+    ensures { λ r. ⌜ Printed (now (out .entry)) at
+        (answerText number (rowLines distanceText (present bound (now (marks .entry))) bound (now (matrix .entry)))) (now (out .exit)) r ⌝ }
     ensures { λ r. ⌜ r ≤ at + most ⌝ }
 {
     if number != 0 {
@@ -71,7 +73,8 @@ fn say_hops(
     at: usize,
 ) -> usize
     requires { ⌜ (bound ≤ 64) × (bound ≤ length (now marks)) × (4096 ≤ length (now matrix)) × (at + most ≤ length (now out)) ⌝ }
-    ensures { λ r. ⌜ Printed (now (out .entry)) at (answerText number (rowLines indexText (present bound (now (marks .entry))) bound (now (matrix .entry)))) (now (out .exit)) r ⌝ }
+    ensures { λ r. ⌜ Printed (now (out .entry)) at
+        (answerText number (rowLines indexText (present bound (now (marks .entry))) bound (now (matrix .entry)))) (now (out .exit)) r ⌝ }
     ensures { λ r. ⌜ r ≤ at + most ⌝ }
 {
     if number != 0 {
@@ -90,8 +93,11 @@ fn say_tree(
     out: &mut [u8],
     at: usize,
 ) -> usize
-    requires { ⌜ (bound ≤ 64) × (bound ≤ length (now marks)) × (bound ≤ length (now dist)) × (bound ≤ length (now preds)) × (at + most ≤ length (now out)) ⌝ }
-    ensures { λ r. ⌜ Printed (now (out .entry)) at (answerText number (treeLines (present bound (now (marks .entry))) bound (now (dist .entry)) (now (preds .entry)))) (now (out .exit)) r ⌝ }
+    requires { ⌜ (bound ≤ 64) × (bound ≤ length (now marks)) × (bound ≤ length (now dist)) × (bound ≤ length (now preds))
+        × (at + most ≤ length (now out)) ⌝ }
+    ensures { λ r. ⌜ Printed (now (out .entry)) at
+        (answerText number (treeLines (present bound (now (marks .entry))) bound (now (dist .entry)) (now (preds .entry))))
+        (now (out .exit)) r ⌝ }
     ensures { λ r. ⌜ r ≤ at + most ⌝ }
 {
     if number != 0 {
@@ -112,7 +118,10 @@ pub fn answer_dijkstra(
     at: usize,
 ) -> usize
     requires { ⌜ Fits (map .bound) (now marks) (now out) at ⌝ }
-    ensures { λ r. ⌜ Written (Dijkstra (netOf (map .bound) (map .count) (map .directed) (now (marks .entry)) (now (from .entry)) (now (to .entry)) (now (costs .entry))) source) (now (out .entry)) at (now (out .exit)) r ⌝ }
+    ensures { λ r. ⌜ Written
+        (Dijkstra
+        (netOf (map .bound) (map .count) (map .directed) (now (marks .entry)) (now (from .entry)) (now (to .entry)) (now (costs .entry)))
+        source) (now (out .entry)) at (now (out .exit)) r ⌝ }
     ensures { λ r. ⌜ r ≤ at + most ⌝ }
 {
     let mut dist = [0i64; 64];
@@ -120,8 +129,8 @@ pub fn answer_dijkstra(
     let mut heads = [0u16; 1024];
     let mut weights = [0i64; 1024];
     let mut preds = [0u32; 64];
-    let mut heap = [0usize; 64];
-    let mut places = [0usize; 64];
+    let mut peaks = [0usize; 64];
+    let mut words = [0usize; 64];
     let mut keys = [0i64; 64];
     let bound = map.bound;
     let number = dijkstra::dijkstra(
@@ -136,8 +145,8 @@ pub fn answer_dijkstra(
         &mut heads,
         &mut weights,
         &mut preds,
-        &mut heap,
-        &mut places,
+        &mut peaks,
+        &mut words,
         &mut keys,
     );
     say_distances(number, bound, marks, &dist, out, at)
@@ -155,7 +164,10 @@ pub fn answer_bellman_ford(
     at: usize,
 ) -> usize
     requires { ⌜ Fits (map .bound) (now marks) (now out) at ⌝ }
-    ensures { λ r. ⌜ Written (BellmanFord (netOf (map .bound) (map .count) (map .directed) (now (marks .entry)) (now (from .entry)) (now (to .entry)) (now (costs .entry))) source) (now (out .entry)) at (now (out .exit)) r ⌝ }
+    ensures { λ r. ⌜ Written
+        (BellmanFord
+        (netOf (map .bound) (map .count) (map .directed) (now (marks .entry)) (now (from .entry)) (now (to .entry)) (now (costs .entry)))
+        source) (now (out .entry)) at (now (out .exit)) r ⌝ }
     ensures { λ r. ⌜ r ≤ at + most ⌝ }
 {
     let mut dist = [0i64; 64];
@@ -197,7 +209,10 @@ pub fn answer_a_star(
     at: usize,
 ) -> usize
     requires { ⌜ Fits (map .bound) (now marks) (now out) at ⌝ }
-    ensures { λ r. ⌜ Written (AStar (netOf (map .bound) (map .count) (map .directed) (now (marks .entry)) (now (from .entry)) (now (to .entry)) (now (costs .entry))) source target) (now (out .entry)) at (now (out .exit)) r ⌝ }
+    ensures { λ r. ⌜ Written
+        (AStar
+        (netOf (map .bound) (map .count) (map .directed) (now (marks .entry)) (now (from .entry)) (now (to .entry)) (now (costs .entry)))
+        source target) (now (out .entry)) at (now (out .exit)) r ⌝ }
     ensures { λ r. ⌜ r ≤ at + most ⌝ }
 {
     let guess = [0i64; 64];
@@ -207,8 +222,8 @@ pub fn answer_a_star(
     let mut weights = [0i64; 1024];
     let mut dist = [0i64; 64];
     let mut preds = [0u32; 64];
-    let mut heap = [0usize; 64];
-    let mut places = [0usize; 64];
+    let mut peaks = [0usize; 64];
+    let mut words = [0usize; 64];
     let mut keys = [0i64; 64];
     let reached = a_star::a_star(
         map,
@@ -225,8 +240,8 @@ pub fn answer_a_star(
         &mut weights,
         &mut dist,
         &mut preds,
-        &mut heap,
-        &mut places,
+        &mut peaks,
+        &mut words,
         &mut keys,
     );
     say_path(reached.number, reached.cost, &path, reached.length, out, at)
@@ -243,7 +258,10 @@ pub fn answer_floyd_warshall(
     at: usize,
 ) -> usize
     requires { ⌜ Fits (map .bound) (now marks) (now out) at ⌝ }
-    ensures { λ r. ⌜ Written (FloydWarshall (netOf (map .bound) (map .count) (map .directed) (now (marks .entry)) (now (from .entry)) (now (to .entry)) (now (costs .entry)))) (now (out .entry)) at (now (out .exit)) r ⌝ }
+    ensures { λ r. ⌜ Written
+        (FloydWarshall
+        (netOf (map .bound) (map .count) (map .directed) (now (marks .entry)) (now (from .entry)) (now (to .entry)) (now (costs .entry))))
+        (now (out .entry)) at (now (out .exit)) r ⌝ }
     ensures { λ r. ⌜ r ≤ at + most ⌝ }
 {
     let mut matrix = [0i64; 4096];
@@ -272,7 +290,10 @@ pub fn answer_johnson(
     at: usize,
 ) -> usize
     requires { ⌜ Fits (map .bound) (now marks) (now out) at ⌝ }
-    ensures { λ r. ⌜ Written (Johnson (netOf (map .bound) (map .count) (map .directed) (now (marks .entry)) (now (from .entry)) (now (to .entry)) (now (costs .entry)))) (now (out .entry)) at (now (out .exit)) r ⌝ }
+    ensures { λ r. ⌜ Written
+        (Johnson
+        (netOf (map .bound) (map .count) (map .directed) (now (marks .entry)) (now (from .entry)) (now (to .entry)) (now (costs .entry))))
+        (now (out .entry)) at (now (out .exit)) r ⌝ }
     ensures { λ r. ⌜ r ≤ at + most ⌝ }
 {
     let mut matrix = [0i64; 4096];
@@ -282,8 +303,8 @@ pub fn answer_johnson(
     let mut heights = [0i64; 64];
     let mut dist = [0i64; 64];
     let mut preds = [0u32; 64];
-    let mut heap = [0usize; 64];
-    let mut places = [0usize; 64];
+    let mut peaks = [0usize; 64];
+    let mut words = [0usize; 64];
     let mut keys = [0i64; 64];
     let bound = map.bound;
     let number = johnson::johnson(
@@ -299,8 +320,8 @@ pub fn answer_johnson(
         &mut heights,
         &mut dist,
         &mut preds,
-        &mut heap,
-        &mut places,
+        &mut peaks,
+        &mut words,
         &mut keys,
     );
     say_rows(number, bound, marks, &matrix, out, at)
@@ -317,7 +338,10 @@ pub fn answer_hops(
     at: usize,
 ) -> usize
     requires { ⌜ Fits (map .bound) (now marks) (now out) at ⌝ }
-    ensures { λ r. ⌜ Written (Hops (netOf (map .bound) (map .count) (map .directed) (now (marks .entry)) (now (from .entry)) (now (to .entry)) (now (costs .entry)))) (now (out .entry)) at (now (out .exit)) r ⌝ }
+    ensures { λ r. ⌜ Written
+        (Hops
+        (netOf (map .bound) (map .count) (map .directed) (now (marks .entry)) (now (from .entry)) (now (to .entry)) (now (costs .entry))))
+        (now (out .entry)) at (now (out .exit)) r ⌝ }
     ensures { λ r. ⌜ r ≤ at + most ⌝ }
 {
     let mut nodes = [0u32; 64];
@@ -355,7 +379,10 @@ pub fn answer_hops_f64(
     at: usize,
 ) -> usize
     requires { ⌜ Fits (map .bound) (now marks) (now out) at ⌝ }
-    ensures { λ r. ⌜ Written (Hops (netOf64 (map .bound) (map .count) (map .directed) (now (marks .entry)) (now (from .entry)) (now (to .entry)) (now (bits .entry)) (now (opens .entry)))) (now (out .entry)) at (now (out .exit)) r ⌝ }
+    ensures { λ r.
+        let net = netOf64 (map .bound) (map .count) (map .directed) (now (marks .entry)) (now (from .entry)) (now (to .entry))
+        (now (bits .entry)) (now (opens .entry)) in
+        ⌜ Written (Hops net) (now (out .entry)) at (now (out .exit)) r ⌝ }
     ensures { λ r. ⌜ r ≤ at + most ⌝ }
 {
     let mut nodes = [0u32; 64];
@@ -395,7 +422,10 @@ pub fn answer_dijkstra_path(
     at: usize,
 ) -> usize
     requires { ⌜ Fits (map .bound) (now marks) (now out) at ⌝ }
-    ensures { λ r. ⌜ Written (DijkstraPath (netOf64 (map .bound) (map .count) (map .directed) (now (marks .entry)) (now (from .entry)) (now (to .entry)) (now (bits .entry)) (now (opens .entry))) source) (now (out .entry)) at (now (out .exit)) r ⌝ }
+    ensures { λ r.
+        let net = netOf64 (map .bound) (map .count) (map .directed) (now (marks .entry)) (now (from .entry)) (now (to .entry))
+        (now (bits .entry)) (now (opens .entry)) in
+        ⌜ Written (DijkstraPath net source) (now (out .entry)) at (now (out .exit)) r ⌝ }
     ensures { λ r. ⌜ r ≤ at + most ⌝ }
 {
     let mut dist = [0u64; 64];
@@ -403,8 +433,8 @@ pub fn answer_dijkstra_path(
     let mut offsets = [0usize; 65];
     let mut heads = [0u16; 1024];
     let mut weights = [0u64; 1024];
-    let mut heap = [0usize; 64];
-    let mut places = [0usize; 64];
+    let mut peaks = [0usize; 64];
+    let mut words = [0usize; 64];
     let mut keys = [0u64; 64];
     let bound = map.bound;
     let number = dijkstra_path::dijkstra_path_f64(
@@ -421,8 +451,8 @@ pub fn answer_dijkstra_path(
         &mut offsets,
         &mut heads,
         &mut weights,
-        &mut heap,
-        &mut places,
+        &mut peaks,
+        &mut words,
         &mut keys,
     );
     say_tree(number, bound, marks, &dist, &preds, out, at)

@@ -15,7 +15,7 @@ use Rattle.float.specs.declared.Cutoff.{Cutoff}
 use Rattle.table.specs.Links.{Link, inside, lentWhole}
 use Rattle.table.specs.Lent.{FloatCost, RawCost, intsNo, floatsNo, Ints, intsNow, putInts, intsPut, Floats, floatsNow, putFloats, floatsPut}
 use Rattle.table.specs.Feeds.{Kind, ints, floats, Feed, fed, lasts, SameFeeds}
-use Rattle.net.specs.Net.{Net, sizeOf, width}
+use Rattle.net.specs.Net.{Net, mostArcsOf, width}
 use Rattle.dijkstra.specs.Promise as dijkstra
 use Rattle.a_star.specs.Promise as star
 use Rattle.bellman_ford.specs.Promise as bellman
@@ -50,7 +50,8 @@ goes-of : {C R S : Type 0} (k : Kind C R S) (Allowed : Net C → Type 0) → ((f
 goes-of k Allowed last f h e e′ m = (λ p. last h e′ .1 (subst Allowed m (last f e .0 p)), λ p. last f e .1 (subst Allowed (sym m) (last h e′ .0 p)))
 
 -- what two calls leave: after 1 to 5 both as lent; else, and wherever the memories were the same in their used parts, the same in these
-alike-of : {B U : Type 0} {used : B → U} {n : ℕ} {b b′ e e′ : B} → LeaveSame used n b b′ e e′ → (1 ≤ n → n ≤ 5 → (e ≡ b) × (e′ ≡ b′)) × ((1 ≤ n → n ≤ 5 → ⊥) → used e ≡ used e′) × (used b ≡ used b′ → used e ≡ used e′)
+alike-of : {B U : Type 0} {used : B → U} {n : ℕ} {b b′ e e′ : B} → LeaveSame used n b b′ e e′
+    → (1 ≤ n → n ≤ 5 → (e ≡ b) × (e′ ≡ b′)) × ((1 ≤ n → n ≤ 5 → ⊥) → used e ≡ used e′) × (used b ≡ used b′ → used e ≡ used e′)
 alike-of (ran o u) = ((λ h l. absurd (⊎-elim (λ y. omega (arith, h, y)) (λ w. ⊎-elim (λ y. omega (arith, l, y)) (λ y. omega (arith, l, y)) w) o)), (λ _. u), λ _. u)
 alike-of {used = used} (refused h l p q) = ((λ _ _. (p, q)), (λ f. absurd (f h l)), λ u. ap used p ∙ (u ∙ sym (ap used q)))
 
@@ -79,55 +80,67 @@ module _ {C R S I B A U : Type 0} (k : Kind C R S) (Allowed : Net C → I → B 
     past = λ f z o i b e a p. let y = over f z o i b e a p in (y, lent (mapAfter k f) i b e a p y);
   }
 
-pub dijkstra-reliable : Reliable ints (λ g s b e n. dijkstra.Promise g s b e n) (λ n. n) (λ g s b. dijkstra.enough g b) (λ g. dijkstraUsed (g .bound) (sizeOf g))
+pub dijkstra-reliable : Reliable ints (λ g s b e n. dijkstra.Promise g s b e n) (λ n. n) (λ g s b. dijkstra.enough g b) (λ g. dijkstraUsed (g .bound) (mostArcsOf g))
 dijkstra-reliable =
     reliable ints _ (λ n. n) (λ g s b. dijkstra.enough g b) _ (λ _ _ _ _ _ _ _ p q. demand1.dijkstra-settled p q) (λ f z _ _ _ _. demand.dijkstra-of-last-records f z)
     (λ _ _ same _ _ _ _ _ _ _ l p q. demand.dijkstra-by-last-records same l p q) (λ _ _ _ _ _ p. told.dijkstra-leaves p .0) (λ f z o _ _ _ _ p. demand.dijkstra-past-limits f z o p)
 
-pub a-star-reliable : Reliable ints (λ g q b e r. star.Promise g q b e r) (λ r. r .number) (λ g q b. star.enough g q b) (λ g. aStarUsed (g .bound) (sizeOf g))
+pub a-star-reliable : Reliable ints (λ g q b e r. star.Promise g q b e r) (λ r. r .number) (λ g q b. star.enough g q b) (λ g. aStarUsed (g .bound) (mostArcsOf g))
 a-star-reliable =
     reliable ints _ (λ (r : star.Answer). r .number) (λ g q b. star.enough g q b) _ (λ _ _ _ _ _ _ _ p q. demand1.a-star-settled p q) (λ f z _ _ _ _. demand.a-star-of-last-records f z)
     (λ _ _ same _ _ _ _ _ _ _ l p q. demand.a-star-by-last-records same l p q) (λ _ _ _ _ _ p n. told.a-star-leaves p .0 n .1) (λ f z o _ _ _ _ p. demand.a-star-past-limits f z o p)
 
-pub bellman-ford-reliable : Reliable ints (λ g s b e n. bellman.Promise g s b e n) (λ n. n) (λ g s b. bellman.enough g b) (λ g. bellmanUsed (g .bound) (sizeOf g))
+pub bellman-ford-reliable : Reliable ints (λ g s b e n. bellman.Promise g s b e n) (λ n. n) (λ g s b. bellman.enough g b) (λ g. bellmanUsed (g .bound) (mostArcsOf g))
 bellman-ford-reliable =
     reliable ints _ (λ n. n) (λ g s b. bellman.enough g b) _ (λ _ _ _ _ _ _ _ p q. demand1.bellman-ford-settled p q) (λ f z _ _ _ _. demand.bellman-ford-of-last-records f z)
     (λ _ _ same _ _ _ _ _ _ _ l p q. demand.bellman-ford-by-last-records same l p q) (λ _ _ _ _ _ p. told.bellman-ford-leaves p .0) (λ f z o _ _ _ _ p. demand.bellman-ford-past-limits f z o p)
 
 -- a matrix and scratch are lent
-pub floyd-warshall-reliable : Reliable {I = Unit} {B = List ℤ × List ℕ} ints (λ g _ b e n. floyd.Promise g (b .0) (b .1) (e .0) (e .1) n) (λ n. n) (λ g _ b. floyd.enough g (b .0) (b .1)) (λ g. pairsUsed (width g) (take (g .bound)))
+pub floyd-warshall-reliable : Reliable {I = Unit} {B = List ℤ × List ℕ} ints (λ g _ b e n. floyd.Promise g (b .0) (b .1) (e .0) (e .1) n) (λ n. n) (λ g _ b. floyd.enough g (b .0) (b .1))
+    (λ g. pairsUsed (width g) (take (g .bound)))
 floyd-warshall-reliable =
-    reliable ints _ (λ n. n) (λ g _ b. floyd.enough g (b .0) (b .1)) _ (λ _ _ _ _ _ _ _ p q. let x = demand1.floyd-warshall-settled p q in (x .0, λ j. (x .1 j, x .2 j))) (λ f z _ _ _ _. demand.floyd-warshall-of-last-records f z)
-    (λ _ _ same _ _ _ _ _ _ _ l p q. demand.floyd-warshall-by-last-records same l p q) (λ _ _ _ _ _ p n. let x = told.floyd-warshall-leaves p .0 n in λ j. (x .0 j, x .1 j)) (λ f z o _ _ _ _ p. demand.floyd-warshall-past-limits f z o p)
+    reliable ints _ (λ n. n) (λ g _ b. floyd.enough g (b .0) (b .1)) _ (λ _ _ _ _ _ _ _ p q. let x = demand1.floyd-warshall-settled p q in (x .0, λ j. (x .1 j, x .2 j)))
+    (λ f z _ _ _ _. demand.floyd-warshall-of-last-records f z)
+    (λ _ _ same _ _ _ _ _ _ _ l p q. demand.floyd-warshall-by-last-records same l p q) (λ _ _ _ _ _ p n. let x = told.floyd-warshall-leaves p .0 n in λ j. (x .0 j, x .1 j))
+    (λ f z o _ _ _ _ p. demand.floyd-warshall-past-limits f z o p)
 
-pub johnson-reliable : Reliable {I = Unit} {B = List ℤ × johnson.Scratch} ints (λ g _ b e n. johnson.Promise g (b .0) (b .1) (e .0) (e .1) n) (λ n. n) (λ g _ b. johnson.enough g (b .0) (b .1)) (λ g. pairsUsed (width g) (johnsonUsed (g .bound) (sizeOf g)))
+pub johnson-reliable : Reliable {I = Unit} {B = List ℤ × johnson.Scratch} ints (λ g _ b e n. johnson.Promise g (b .0) (b .1) (e .0) (e .1) n) (λ n. n) (λ g _ b. johnson.enough g (b .0) (b .1))
+    (λ g. pairsUsed (width g) (johnsonUsed (g .bound) (mostArcsOf g)))
 johnson-reliable =
-    reliable ints _ (λ n. n) (λ g _ b. johnson.enough g (b .0) (b .1)) _ (λ _ _ _ _ _ _ _ p q. let x = demand1.johnson-settled p q in (x .0, λ j. (x .1 j, x .2 j))) (λ f z _ _ _ _. demand.johnson-of-last-records f z)
-    (λ _ _ same _ _ _ _ _ _ _ l p q. demand.johnson-by-last-records same l p q) (λ _ _ _ _ _ p n. let x = told.johnson-leaves p .0 n in λ j. (x .0 j, x .1 j)) (λ f z o _ _ _ _ p. demand.johnson-past-limits f z o p)
+    reliable ints _ (λ n. n) (λ g _ b. johnson.enough g (b .0) (b .1)) _ (λ _ _ _ _ _ _ _ p q. let x = demand1.johnson-settled p q in (x .0, λ j. (x .1 j, x .2 j)))
+    (λ f z _ _ _ _. demand.johnson-of-last-records f z)
+    (λ _ _ same _ _ _ _ _ _ _ l p q. demand.johnson-by-last-records same l p q) (λ _ _ _ _ _ p n. let x = told.johnson-leaves p .0 n in λ j. (x .0 j, x .1 j))
+    (λ f z o _ _ _ _ p. demand.johnson-past-limits f z o p)
 
 -- the answer is the number and the length of the node list
 module _ {C R S : Type 0} (k : Kind C R S) where
   abbrev HopsReliable : Type 1
-  HopsReliable = Reliable {I = Unit} {A = ℕ × ℕ} k (λ g _ b e a. hops.Promise g b e (a .0) (a .1)) (λ a. a .0) (λ g _ b. hops.enough g b) (λ g. hopsUsed (g .bound) (sizeOf g) (width g))
+  HopsReliable = Reliable {I = Unit} {A = ℕ × ℕ} k (λ g _ b e a. hops.Promise g b e (a .0) (a .1)) (λ a. a .0) (λ g _ b. hops.enough g b) (λ g. hopsUsed (g .bound) (mostArcsOf g) (width g))
 
 pub hops-reliable : HopsReliable ints
 hops-reliable =
-    reliable ints _ (λ (a : ℕ × ℕ). a .0) (λ g _ b. hops.enough g b) _ (λ _ _ _ _ _ _ _ p q. let x = demand1.hops-settled p q in ((λ j. (x .0 j, x .1 j)), x .2)) (λ f z _ _ _ _. demand.hops-of-last-records f z)
-    (λ _ _ same _ _ _ _ _ _ _ l p q. let x = demand.hops-by-last-records same l p q in ((λ j. (x .0 j, x .1 j)), x .2)) (λ _ _ _ _ _ p n. told.hops-leaves p .0 n .1) (λ f z o _ _ _ _ p. demand.hops-past-limits f z o p)
+    reliable ints _ (λ (a : ℕ × ℕ). a .0) (λ g _ b. hops.enough g b) _ (λ _ _ _ _ _ _ _ p q. let x = demand1.hops-settled p q in ((λ j. (x .0 j, x .1 j)), x .2))
+    (λ f z _ _ _ _. demand.hops-of-last-records f z)
+    (λ _ _ same _ _ _ _ _ _ _ l p q. let x = demand.hops-by-last-records same l p q in ((λ j. (x .0 j, x .1 j)), x .2)) (λ _ _ _ _ _ p n. told.hops-leaves p .0 n .1)
+    (λ f z o _ _ _ _ p. demand.hops-past-limits f z o p)
 
 pub hops-f64-reliable : HopsReliable floats
 hops-f64-reliable =
-    reliable floats _ (λ (a : ℕ × ℕ). a .0) (λ g _ b. hops.enough g b) _ (λ _ _ _ _ _ _ _ p q. let x = demand1.hops-settled p q in ((λ j. (x .0 j, x .1 j)), x .2)) (λ f z _ _ _ _. demand.hops-f64-of-last-records f z)
-    (λ _ _ same _ _ _ _ _ _ _ l p q. let x = demand.hops-f64-by-last-records same l p q in ((λ j. (x .0 j, x .1 j)), x .2)) (λ _ _ _ _ _ p n. told.hops-leaves p .0 n .1) (λ f z o _ _ _ _ p. demand.hops-f64-past-limits f z o p)
+    reliable floats _ (λ (a : ℕ × ℕ). a .0) (λ g _ b. hops.enough g b) _ (λ _ _ _ _ _ _ _ p q. let x = demand1.hops-settled p q in ((λ j. (x .0 j, x .1 j)), x .2))
+    (λ f z _ _ _ _. demand.hops-f64-of-last-records f z)
+    (λ _ _ same _ _ _ _ _ _ _ l p q. let x = demand.hops-f64-by-last-records same l p q in ((λ j. (x .0 j, x .1 j)), x .2)) (λ _ _ _ _ _ p n. told.hops-leaves p .0 n .1)
+    (λ f z o _ _ _ _ p. demand.hops-f64-past-limits f z o p)
 
-pub dijkstra-path-reliable : Reliable {I = ℕ × Cutoff} floats (λ g i b e n. search.Promise g (i .0) (i .1) b e n) (λ n. n) (λ g i b. search.enough g b) (λ g. dijkstraPathUsed (g .bound) (sizeOf g))
+pub dijkstra-path-reliable : Reliable {I = ℕ × Cutoff} floats (λ g i b e n. search.Promise g (i .0) (i .1) b e n) (λ n. n) (λ g i b. search.enough g b)
+    (λ g. dijkstraPathUsed (g .bound) (mostArcsOf g))
 dijkstra-path-reliable =
     reliable floats _ (λ n. n) (λ g i b. search.enough g b) _ (λ _ _ _ _ _ _ _ p q. demand1.dijkstra-path-settled p q) (λ f z _ _ _ _. demand.dijkstra-path-of-last-records f z)
     (λ _ _ same _ _ _ _ _ _ _ l p q. demand.dijkstra-path-by-last-records same l p q) (λ _ _ _ _ _ p. told.dijkstra-path-leaves p .0) (λ f z o _ _ _ _ p. demand.dijkstra-path-past-limits f z o p)
 
 -- the page check is lent nothing to write
 pub page-reliable : (s : ℕ) (l : List ℤ) → ((g : Net ℤ) → One (page.Promise g s l)) × ((a : page.Answer) → GoesByLasts ints (λ g. page.Promise g s l a))
-    × ((f h : Feed (Link ℤ) Ints) (a a′ : page.Answer) → SameFeeds ints f h → page.Promise (mapAfter ints f) s l a → page.Promise (mapAfter ints h) s l a′ → (a .number ≡ a′ .number) × (a .yes ≡ a′ .yes))
+    × ((f h : Feed (Link ℤ) Ints) (a a′ : page.Answer) → SameFeeds ints f h → page.Promise (mapAfter ints f) s l a → page.Promise (mapAfter ints h) s l a′
+    → (a .number ≡ a′ .number) × (a .yes ≡ a′ .yes))
     × ((f : Feed (Link ℤ) Ints) (a : page.Answer) → f .lent .count ≡ 0 → lentWhole (f .bound) 0 0 (f .marks) ≡ false → page.Promise (mapAfter ints f) s l a → (a .number ≡ 1) × (a .yes ≡ false))
 page-reliable s l = (
   λ g P a a′ p q. subst P (demand1.page-settled p q),
@@ -149,7 +162,8 @@ put-past f e over r = let s = fed ints f in told.put-ints-leaves (f .directed) (
 
 pub put-f64-past : (f : Feed (Link RawCost) Floats) → f .lent .count ≡ 0 → lentWhole (f .bound) 0 0 (f .marks) ≡ false → (r : Link RawCost) → let s = fed floats f in
     floatsPut (f .directed) (f .bound) (f .marks) r s ≡ floatsNow 1 (s .count) (s .from) (s .to) (s .bits) (s .opens)
-put-f64-past f e over r = let s = fed floats f in told.put-floats-leaves (f .directed) (f .bound) (f .marks) r (s .count) (s .from) (s .to) (s .bits) (s .opens) .0 (demand.put-f64-past-limits f e over r)
+put-f64-past f e over r =
+    let s = fed floats f in told.put-floats-leaves (f .directed) (f .bound) (f .marks) r (s .count) (s .from) (s .to) (s .bits) (s .opens) .0 (demand.put-f64-past-limits f e over r)
 
 -- ---- a record that is refused
 -- the same feed with other records
@@ -162,23 +176,25 @@ ofAccepted k f l = let t = lasts (f .directed) (map (k .seen) l) in record { bou
 
 -- changes no answer that goes by last records, wherever it stands in the feed
 pub skipped-ints : (Allowed : Net ℤ → Type 0) → GoesByLasts ints Allowed → (f : Feed (Link ℤ) Ints) → f .lent .count ≡ 0 → (before after : List (Link ℤ)) (r : Link ℤ)
-    → (intsPut (f .directed) (f .bound) (f .marks) r (fed ints (feeding f before)) .no ≡ 0 → ⊥) → Allowed (mapAfter ints (feeding f (before ++ (r ∷ after)))) ↔ Allowed (mapAfter ints (feeding f (before ++ after)))
+    → (intsPut (f .directed) (f .bound) (f .marks) r (fed ints (feeding f before)) .number ≡ 0 → ⊥) → Allowed (mapAfter ints (feeding f (before ++ (r ∷ after))))
+    ↔ Allowed (mapAfter ints (feeding f (before ++ after)))
 skipped-ints Allowed by f e before after r h =
     by (feeding f (before ++ (r ∷ after))) (feeding f (before ++ after)) e e (ap (ofAccepted ints f) (demand.unseen-ints (f .directed) (f .bound) (f .marks) before after r (f .lent) h))
 
 pub skipped-floats : (Allowed : Net FloatCost → Type 0) → GoesByLasts floats Allowed → (f : Feed (Link RawCost) Floats) → f .lent .count ≡ 0 → (before after : List (Link RawCost)) (r : Link RawCost)
-    → (floatsPut (f .directed) (f .bound) (f .marks) r (fed floats (feeding f before)) .no ≡ 0 → ⊥) → Allowed (mapAfter floats (feeding f (before ++ (r ∷ after)))) ↔ Allowed (mapAfter floats (feeding f (before ++ after)))
+    → (floatsPut (f .directed) (f .bound) (f .marks) r (fed floats (feeding f before)) .number ≡ 0 → ⊥) → Allowed (mapAfter floats (feeding f (before ++ (r ∷ after))))
+    ↔ Allowed (mapAfter floats (feeding f (before ++ after)))
 skipped-floats Allowed by f e before after r h =
     by (feeding f (before ++ (r ∷ after))) (feeding f (before ++ after)) e e (ap (ofAccepted floats f) (demand.unseen-floats (f .directed) (f .bound) (f .marks) before after r (f .lent) h))
 
 -- one with an end that the map has not gives 2, and the next put finds the table as if it had not been put
 pub refused-ints-next : (d : Bool) (m : ℕ) (marks : List ℕ) (r x : Link ℤ) (s : Ints) → intsNo m (s .count) marks (s .from) (s .to) (s .costs) ≡ 0 → inside m marks r ≡ false
-    → (intsPut d m marks r s .no ≡ 2) × (intsPut d m marks x (intsPut d m marks r s) ≡ intsPut d m marks x s)
-refused-ints-next d m marks r x s good out = let e = demand.refused-ints d m marks r s good out in (ap (λ (y : Ints). y .no) e, ap (intsPut d m marks x) e)
+    → (intsPut d m marks r s .number ≡ 2) × (intsPut d m marks x (intsPut d m marks r s) ≡ intsPut d m marks x s)
+refused-ints-next d m marks r x s good out = let e = demand.refused-ints d m marks r s good out in (ap (λ (y : Ints). y .number) e, ap (intsPut d m marks x) e)
 
 pub refused-floats-next : (d : Bool) (m : ℕ) (marks : List ℕ) (r x : Link RawCost) (s : Floats) → floatsNo m (s .count) marks (s .from) (s .to) (s .bits) (s .opens) ≡ 0 → inside m marks r ≡ false
-    → (floatsPut d m marks r s .no ≡ 2) × (floatsPut d m marks x (floatsPut d m marks r s) ≡ floatsPut d m marks x s)
-refused-floats-next d m marks r x s good out = let e = demand.refused-floats d m marks r s good out in (ap (λ (y : Floats). y .no) e, ap (floatsPut d m marks x) e)
+    → (floatsPut d m marks r s .number ≡ 2) × (floatsPut d m marks x (floatsPut d m marks r s) ≡ floatsPut d m marks x s)
+refused-floats-next d m marks r x s good out = let e = demand.refused-floats d m marks r s good out in (ap (λ (y : Floats). y .number) e, ap (floatsPut d m marks x) e)
 
 -- ---- of a file: the output and the length
 pub sheet-one-text : (file out : List ℕ) → One (λ (x : List ℕ × ℕ). Written (Sheet file) out 0 (x .0) (x .1))

@@ -22,7 +22,7 @@ use Rattle.table.specs.Feeds.{ints, Feed}
 use Rattle.walks.specs.Walk.{Walk, Least, NegativeFrom, Negative}
 use Rattle.walks.specs.Pigeon.{NoDup}
 use Rattle.walks.specs.Chain.{Path, Cheapest}
-use Rattle.net.specs.Net.{Net, ArcOf, LeadsOf, nodesOf, width, insideNet, has, sizeOf}
+use Rattle.net.specs.Net.{Net, ArcOf, LeadsOf, nodesOf, width, insideNet, has, mostArcsOf}
 use Rattle.rows.specs.Rows.{rowsOf, openRows}
 use Rattle.pending.specs.Setting.{End}
 use Rattle.pending.specs.Literal as Lit
@@ -88,7 +88,9 @@ module _ (f : Feed (Link ℤ) Ints) (e : f .lent .count ≡ 0) where
 
   pub floyd-warshall-fed : {m m′ : List ℤ} {r r′ : List ℕ} {n : ℕ} → floyd.Promise (mapAfter ints f) m r m′ r′ n
       → (n ≡ 0 → AllShortest last m′) × ((n ≡ 7) ↔ ((floyd.enough last m r ≡ true) × (insideNet last ≡ true) × Negative (ArcOf last)))
-  floyd-warshall-fed {m′ = m′} p = let q = demand3.floyd-warshall-of-last-records f e .0 p in ((λ z. all-shortest last m′ (demand2.floyd-warshall-distances q z) (demand2.floyd-warshall-diagonal q z)), demand2.floyd-warshall-seven q)
+  floyd-warshall-fed {m′ = m′} p =
+      let q = demand3.floyd-warshall-of-last-records f e .0 p in
+      ((λ z. all-shortest last m′ (demand2.floyd-warshall-distances q z) (demand2.floyd-warshall-diagonal q z)), demand2.floyd-warshall-seven q)
 
   pub johnson-fed : {m m′ : List ℤ} {s s′ : johnson.Scratch} {n : ℕ} → johnson.Promise (mapAfter ints f) m s m′ s′ n
       → (n ≡ 0 → AllShortest last m′) × ((n ≡ 7) ↔ ((johnson.enough last m s ≡ true) × (insideNet last ≡ true) × Negative (ArcOf last)))
@@ -116,7 +118,7 @@ hops-fewest g a z i j h k = let x = demand2.hops-distances g a z i j h k in ((λ
 -- ---- the pending bag ends, and whatever it ends in, the answer is that
 pub a-star-by-bag : {g : Net ℤ} {q : star.Question} {b e : star.Buffers} {r : star.Answer} → star.Promise g q b e r → star.Fine g q b
     → let Bag = Lit.Ends (star.searchOf q) (rowsOf g) (Lit.start (star.searchOf q)) in
-    ((x : End ℤ) × Bag x) × ((x : End ℤ) → Bag x → (l : List ℕ) × star.Says (ArcOf g) q x r l × (e ≡ star.left (g .bound) (sizeOf g) b l))
+    ((x : End ℤ) × Bag x) × ((x : End ℤ) → Bag x → (l : List ℕ) × star.Says (ArcOf g) q x r l × (e ≡ star.left (g .bound) (mostArcsOf g) b l))
 a-star-by-bag {g} {q} {r = r} p w =
     let y = a-star-bag p w in
     ((y .0, y .2), λ x run. (y .1, subst (λ (z : End ℤ). star.Says (ArcOf g) q z r (y .1)) (literal-one (star.searchOf q) (rowsOf g) (y .2) run) (y .3), y .4))
@@ -125,8 +127,10 @@ pub dijkstra-path-by-bag : {g : Net FloatCost} {s : ℕ} {k : Cutoff} {b e : sea
     → let Bag = Lit.Ends (search64 (past k) none s) (openRows g) (Lit.start (search64 (past k) none s)) in
     ((x : End ℕ) × Bag x) × ((x : End ℕ) → Bag x → (n ≡ x .number) × (x .number ≡ 0 → search.Answers (g .bound) x b e))
 dijkstra-path-by-bag {g} {s} {k} {b} {e} {n} p l i h =
-    let y = dijkstra-path-bag p l i h in
-    ((y .0, y .1), λ x run. subst (λ (z : End ℕ). (n ≡ z .number) × (z .number ≡ 0 → search.Answers (g .bound) z b e)) (literal-one (search64 (past k) none s) (openRows g) (y .1) run) (y .2, λ z. y .3 (y .2 ∙ z)))
+    let y = dijkstra-path-bag p l i h in (
+      (y .0, y .1),
+      λ x run. subst (λ (z : End ℕ). (n ≡ z .number) × (z .number ≡ 0 → search.Answers (g .bound) z b e)) (literal-one (search64 (past k) none s) (openRows g) (y .1) run) (y .2, λ z. y .3 (y .2 ∙ z)),
+    )
 
 -- ---- `a_star` after 0: where a walk leads to the target a path of the map is given, with a cost that is no less than the path's total; with a modest heuristic that
 -- total is the least of all; where none leads, no path and no cost
@@ -157,7 +161,8 @@ pub exact-least : {g : Net ℤ} {h : Net FloatCost} {s : ℕ} {b e : dijkstra.Bu
 exact-least {g} {s = s} {e = e} {e′ = e′} c p r f f′ z v l =
     let a = exact-case c p r f f′ in let y = a .number ∙ z in go (demand2.dijkstra-distances p y v l) (a .distances y v l)
   where
-    go : {d : ℤ} {x : ℕ} → Distance (ArcOf g) s v d → SameNumber d x → ((x ≡ noneF64) × ((t : ℤ) → Walk (ArcOf g) s v t → ⊥)) ⊎ ((k : ℕ) × (k ≤ 2 ^ 53) × (x ≡ pattern (pos k)) × Least (ArcOf g) s v (pos k))
+    go : {d : ℤ} {x : ℕ} → Distance (ArcOf g) s v d → SameNumber d x
+        → ((x ≡ noneF64) × ((t : ℤ) → Walk (ArcOf g) s v t → ⊥)) ⊎ ((k : ℕ) × (k ≤ 2 ^ 53) × (x ≡ pattern (pos k)) × Least (ArcOf g) s v (pos k))
     go w (neither i q) = inl (q, w .none-exactly .0 i)
     go {d} w (both k m i q) = inr (k, m, q, subst (Least (ArcOf g) s v) i (shortest w .0 (λ o. absurd (omega (arith, zed)))))
 

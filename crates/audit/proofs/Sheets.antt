@@ -24,8 +24,8 @@ use Rattle.answers.specs.Answers.{Shown}
 use Rattle.sheet.specs.Sheet.{readFile, Answer, dijkstra, bellmanFord, aStar, floydWarshall, johnson, hops, hops64, dijkstraPath}
 use Rattle.sheet.specs.Numbers.{Possible}
 use Rattle.sheet.proofs.Numbers.{possible}
-use Rattle.small_maps.specs.Small.{empty, loop, behind, pair, apart, detour, starting}
-use Rattle.small_maps.proofs.Small.{small-maps}
+use Rattle.promises.specs.Small.{empty, loop, behind, pair, apart, detour, starting}
+use Rattle.promises.proofs.Small.{small-maps}
 
 -- ---- what a sheet says of an answer is said of a number that stands in the engine's line, from engine 1 on
 abbrev Line : ℕ → ℕ → Type 0
@@ -47,14 +47,16 @@ told-of {engine = engine} (hops e f x) i = told 6 engine e x (here i)
 told-of {engine = engine} (hops64 e f x) i = told 6 engine e x (here i)
 told-of {engine = engine} (dijkstraPath e x) i = told 7 engine e x i
 
-pub engine-tells : (file text : List ℕ) (source target : ℕ) → readFile file .walk .stage ≡ 4 → Answer (readFile file) (readFile file .walk .engine) source target text → Told (readFile file .walk .engine) text
+pub engine-tells : (file text : List ℕ) (source target : ℕ) → readFile file .reading .stage ≡ 4 → Answer (readFile file) (readFile file .reading .engine) source target text
+    → Told (readFile file .reading .engine) text
 engine-tells file text source target ask a = told-of a (possible file ask a)
 
 -- ---- the small maps: there are buffers with which every allowed answer has the number k and xs in front of the slice
 abbrev Runs : {B : Type 0} → (B → B → ℕ → Type 0) → (B → List ℤ) → ℕ → List ℤ → Type 0
 Runs {B} promise slice k xs = (b : B) × ((e : B) (n : ℕ) → promise b e n → (n ≡ k) × (slice e ≡ starting xs (slice b)))
 
-runs : {B N : Type 0} {long : B → Bool} {Allows Says : B → B → N → Type 0} → ((b : B) × (long b ≡ true)) × ((b e : B) (n : N) → long b ≡ true → Allows b e n → Says b e n) → (b : B) × ((e : B) (n : N) → Allows b e n → Says b e n)
+runs : {B N : Type 0} {long : B → Bool} {Allows Says : B → B → N → Type 0} → ((b : B) × (long b ≡ true)) × ((b e : B) (n : N) → long b ≡ true → Allows b e n → Says b e n)
+    → (b : B) × ((e : B) (n : N) → Allows b e n → Says b e n)
 runs x = (x .0 .0, λ e n p. x .1 (x .0 .0) e n (x .0 .1) p)
 
 module _ (g : Net ℤ) where
@@ -77,13 +79,25 @@ pub small-first : (d : Bool) (marks xs ys : List ℕ) (cs : List ℤ) → FloydW
 small-first d marks xs ys cs = runs (small-maps .s1 d marks xs ys cs)
 
 pub small-loops :
-    DijkstraRuns (loop (negsuc 0)) 0 6 (noneI64 ∷ []) × BellmanFordRuns (loop (negsuc 0)) 0 7 (noneI64 ∷ []) × FloydWarshallRuns (loop (negsuc 0)) 7 (noneI64 ∷ []) × JohnsonRuns (loop (negsuc 0)) 7 (noneI64 ∷ [])
+    DijkstraRuns (loop (negsuc 0)) 0 6 (noneI64 ∷ []) × BellmanFordRuns (loop (negsuc 0)) 0 7 (noneI64 ∷ []) × FloydWarshallRuns (loop (negsuc 0)) 7 (noneI64 ∷ [])
+    × JohnsonRuns (loop (negsuc 0)) 7 (noneI64 ∷ [])
     × DijkstraRuns (loop (pos 3)) 0 0 (pos 0 ∷ []) × BellmanFordRuns (loop (pos 3)) 0 0 (pos 0 ∷ []) × FloydWarshallRuns (loop (pos 3)) 0 (pos 0 ∷ []) × JohnsonRuns (loop (pos 3)) 0 (pos 0 ∷ [])
-small-loops = let s = small-maps in (runs (s .s2-dijkstra), runs (s .s2-bellman-ford), runs (s .s2-floyd-warshall), runs (s .s2-johnson), runs (s .s3-dijkstra), runs (s .s3-bellman-ford), runs (s .s3-floyd-warshall), runs (s .s3-johnson))
+small-loops =
+    let s = small-maps in (
+      runs (s .s2-dijkstra),
+      runs (s .s2-bellman-ford),
+      runs (s .s2-floyd-warshall),
+      runs (s .s2-johnson),
+      runs (s .s3-dijkstra),
+      runs (s .s3-bellman-ford),
+      runs (s .s3-floyd-warshall),
+      runs (s .s3-johnson),
+    )
 
 pub small-others :
     DijkstraRuns behind 0 6 (noneI64 ∷ noneI64 ∷ noneI64 ∷ []) × DijkstraRuns behind 2 0 (noneI64 ∷ noneI64 ∷ pos 0 ∷ []) × BellmanFordRuns pair 0 7 (noneI64 ∷ noneI64 ∷ [])
     × BellmanFordRuns apart 0 0 (pos 0 ∷ pos 2 ∷ noneI64 ∷ noneI64 ∷ []) × JohnsonRuns apart 7 (replicate 16 noneI64)
     × AStarRuns detour (AStar.questionOf 0 2 (pos 0 ∷ pos 1 ∷ negsuc 99 ∷ [])) (pos 10) (0 ∷ 2 ∷ []) × AStarRuns detour (AStar.questionOf 0 2 (pos 0 ∷ pos 1 ∷ pos 0 ∷ [])) (pos 2) (0 ∷ 1 ∷ 2 ∷ [])
     × (feed (intsPut true 2 (1 ∷ 1 ∷ [])) (intsNow 0 0 (0 ∷ 0 ∷ []) (0 ∷ 0 ∷ []) (pos 0 ∷ pos 0 ∷ [])) (linkOf 1 0 (pos 7) ∷ linkOf 1 0 (pos 4) ∷ []) .costs ≡ pos 4 ∷ pos 0 ∷ [])
-small-others = let s = small-maps in (runs (s .s4-from-0), runs (s .s4-from-2), runs (s .s5), runs (s .s6-bellman-ford), runs (s .s6-johnson), runs (s .s7), runs (s .s8), ap (λ (x : Ints). x .costs) (s .s9))
+small-others =
+    let s = small-maps in (runs (s .s4-from-0), runs (s .s4-from-2), runs (s .s5), runs (s .s6-bellman-ford), runs (s .s6-johnson), runs (s .s7), runs (s .s8), ap (λ (x : Ints). x .costs) (s .s9))

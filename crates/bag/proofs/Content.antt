@@ -1,19 +1,16 @@
--- The content of a bag: what stores to places and keys do to it, and how many it holds.
+-- The content of a bag: what stores to words and keys do to it, and how many it holds.
 -- Places and keys stand for a list of pairs that may be missing: an index is in the bag where its place is not 0, with its key. So a store to a place, with one to
--- its key, changes the content at that index alone; the value of a place that is not 0 does not matter; and the number held changes by one just where a place
--- becomes 0 or stops being 0. All of it goes by induction over the places.
+-- its key, changes the content at that index alone, and the number held changes by one just where a place becomes 0 or stops being 0. All of it goes by induction over the words.
 -- Assumes nothing.
-use mathlib.Core.Path.{_≡_, refl, sym, ap, ap₂, _∙_}
+use mathlib.Core.Path.{_≡_, refl, sym, ap, _∙_}
 use mathlib.Core.List.{List, [], _∷_}
 use mathlib.Core.Option.{Option, none, some, Option·none-ne-some}
-use Prim.Native.Nat.{ℕ, zero, suc, _+_, _≤_, _<_}
+use Prim.Native.Nat.{ℕ, zero, suc, _+_, _-_, _≤_, _<_}
 use native.Mathlib.Omega.{arith}
 use native.Mathlib.Nat.{not-suc-le-zero, le-of-suc-le-suc}
-use native.Mathlib.Decide.{ℕ-discrete}
 use native.Mathlib.Numerals.{add-one}
 use lib.ListN.{getD, length, set}
-use lib.Seq.{getD-set-same, getD-set-other}
-use Rattle.bag.specs.Content.{entry, contentOf, held, SameIn}
+use Rattle.bag.specs.Content.{entry, contentOf, held}
 
 -- an element within the list does not depend on the default
 pub any-default : {A : Type 0} (l : List A) (i : ℕ) (d e : A) → i < length l → getD l i d ≡ getD l i e
@@ -30,7 +27,7 @@ module _ {K : Type 0} where
   content-at (p ∷ ps) (k ∷ ks) d zero e = refl
   content-at (p ∷ ps) (k ∷ ks) d (suc v) e = content-at ps ks d v (omega (arith, e))
 
-  -- the content is as long as the places
+  -- the content is as long as the words
   pub content-long : (ps : List ℕ) (ks : List K) → length ks ≡ length ps → length (contentOf ps ks) ≡ length ps
   unfolding contentOf
   content-long [] ks e = refl
@@ -59,24 +56,6 @@ module _ {K : Type 0} where
   pub content-in : (ps : List ℕ) (ks : List K) (v p : ℕ) (k : K) → contentOf (set ps v (p + 1)) (set ks v k) ≡ set (contentOf ps ks) v (some k)
   content-in ps ks v p k = ap (λ (x : ℕ). contentOf (set ps v x) (set ks v k)) (add-one p) ∙ content-in′ ps ks v p k
 
-  -- an entry looks only at whether the place is 0
-  entry-same : (x y : ℕ) (k : K) → (x ≡ 0 → y ≡ 0) → (y ≡ 0 → x ≡ 0) → entry x k ≡ entry y k
-  entry-same zero zero k f g = refl
-  entry-same zero (suc y) k f g = absurd (omega (arith, f refl))
-  entry-same (suc x) zero k f g = absurd (omega (arith, g refl))
-  entry-same (suc x) (suc y) k f g = refl
-
-  -- the places themselves do not matter
-  pub content-same : (a b : List ℕ) (ks : List K) → length a ≡ length b → SameIn a b → contentOf a ks ≡ contentOf b ks
-  unfolding contentOf
-  content-same [] [] ks e s = refl
-  content-same [] (y ∷ b) ks e s = absurd (omega (arith, e))
-  content-same (x ∷ a) [] ks e s = absurd (omega (arith, e))
-  content-same (x ∷ a) (y ∷ b) [] e s = refl
-  content-same (x ∷ a) (y ∷ b) (k ∷ ks) e s =
-      ap₂ (λ (o : Option K) (l : List (Option K)). o ∷ l) (entry-same x y k (s .still-out 0) (s .was-out 0))
-      (content-same a b ks (omega (arith, e)) (record { still-out = λ v z. s .still-out (suc v) z; was-out = λ v z. s .was-out (suc v) z }))
-
   -- what an entry that holds a key tells
   entry-place : (x : ℕ) (k j : K) → entry x k ≡ some j → (p : ℕ) × (x ≡ p + 1)
   entry-place zero k j e = absurd (Option·none-ne-some j e)
@@ -100,18 +79,7 @@ module _ {K : Type 0} where
   place-held ps ks d v p e h = content-at ps ks d v e ∙ ap (λ (x : ℕ). entry x (getD ks v d)) (h ∙ add-one p)
 
 -- ---- how many are held
--- the places themselves do not matter
-pub held-same : (a b : List ℕ) → length a ≡ length b → SameIn a b → held a ≡ held b
-unfolding held
-held-same [] [] e s = refl
-held-same [] (y ∷ b) e s = absurd (omega (arith, e))
-held-same (x ∷ a) [] e s = absurd (omega (arith, e))
-held-same (zero ∷ a) (zero ∷ b) e s = held-same a b (omega (arith, e)) (record { still-out = λ v z. s .still-out (suc v) z; was-out = λ v z. s .was-out (suc v) z })
-held-same (zero ∷ a) (suc y ∷ b) e s = absurd (omega (arith, s .still-out 0 refl))
-held-same (suc x ∷ a) (zero ∷ b) e s = absurd (omega (arith, s .was-out 0 refl))
-held-same (suc x ∷ a) (suc y ∷ b) e s = ap suc (held-same a b (omega (arith, e)) (record { still-out = λ v z. s .still-out (suc v) z; was-out = λ v z. s .was-out (suc v) z }))
-
--- no more than there are places
+-- no more than there are words
 held-le : (ps : List ℕ) → held ps ≤ length ps
 unfolding held
 held-le [] = omega arith
@@ -149,7 +117,7 @@ held-out (suc x ∷ ps) zero p e = add-one (held ps)
 held-out (zero ∷ ps) (suc v) p e = held-out ps v p e
 held-out (suc x ∷ ps) (suc v) p e = omega (arith, held-out ps v p e)
 
--- ---- places that are not 0
+-- ---- words that are not 0
 -- an entry that is not 0 is within the list
 pub inside : (l : List ℕ) (v : ℕ) → 0 < getD l v 0 → v < length l
 inside [] v h = absurd (omega (arith, h))
@@ -167,14 +135,22 @@ some-held [] h = absurd (omega (arith, h))
 some-held (zero ∷ l) h = let s = some-held l h in record { at = suc (s .at); is = s .is }
 some-held (suc x ∷ l) h = record { at = 0; is = omega arith }
 
--- an entry that is not 0 gets another value that is not 0
-pub same-some : (l : List ℕ) (v w : ℕ) → 0 < getD l v 0 → 0 < w → SameIn l (set l v w)
-same-some l v w h p = record { still-out = λ u e. out u (ℕ-discrete u v) e; was-out = λ u e. was u (ℕ-discrete u v) e }
-  where
-    out : (u : ℕ) → Dec (u ≡ v) → getD l u 0 ≡ 0 → getD (set l v w) u 0 ≡ 0
-    out u (yes d) e = absurd (omega (arith, ap (λ (x : ℕ). getD l x 0) d, h, e))
-    out u (no d) e = getD-set-other l v u w 0 d ∙ e
+-- how many there are with a word that is stored: one more, if there was none
+pub one-more : (l : List ℕ) (n v w : ℕ) → n ≡ held l → v < length l → 0 < w → getD l v 0 ≡ 0 → n + 1 ≡ held (set l v w)
+one-more l n v w many p s e =
+    let back : w - 1 + 1 ≡ w = omega (arith, s) in
+    omega (arith, many, held-in l v (w - 1) p e, ap (λ (x : ℕ). held (set l v x)) back)
 
-    was : (u : ℕ) → Dec (u ≡ v) → getD (set l v w) u 0 ≡ 0 → getD l u 0 ≡ 0
-    was u (yes d) e = absurd (omega (arith, ap (λ (x : ℕ). getD (set l v w) x 0) d, getD-set-same l v w 0 (inside l v h), p, e))
-    was u (no d) e = sym (getD-set-other l v u w 0 d) ∙ e
+-- else as many
+held-kept : (ps : List ℕ) (v p : ℕ) → 0 < getD ps v 0 → held (set ps v (suc p)) ≡ held ps
+unfolding held
+held-kept [] v p h = absurd (omega (arith, h))
+held-kept (zero ∷ ps) zero p h = absurd (omega (arith, h))
+held-kept (suc x ∷ ps) zero p h = refl
+held-kept (zero ∷ ps) (suc v) p h = held-kept ps v p h
+held-kept (suc x ∷ ps) (suc v) p h = ap suc (held-kept ps v p h)
+
+pub no-more : (l : List ℕ) (n v w : ℕ) → n ≡ held l → 0 < w → 0 < getD l v 0 → n ≡ held (set l v w)
+no-more l n v w many s h =
+    let back : w - 1 + 1 ≡ w = omega (arith, s) in
+    many ∙ sym (held-kept l v (w - 1) h) ∙ ap (λ (x : ℕ). held (set l v x)) (sym (add-one (w - 1)) ∙ back)

@@ -1,4 +1,4 @@
--- The empty bag: all places are 0. Assumes nothing.
+-- The empty bag: all words are 0. Assumes nothing.
 use mathlib.Core.Path.{_≡_, refl, sym, ap, _∙_}
 use mathlib.Core.List.{List, [], _∷_}
 use mathlib.Core.Option.{Option, none, some}
@@ -12,7 +12,7 @@ use Rattle.bag.specs.Bag.{Bag}
 use Rattle.bag.proofs.Content.{held-place}
 use Rattle.bag.proofs.Largest.{peak-below}
 
--- places that are all 0
+-- words that are all 0
 getD-zeros : (m v : ℕ) → _≡_ {A = ℕ} (getD (replicate m 0) v 0) 0
 getD-zeros zero v = refl
 getD-zeros (suc m) zero = refl
@@ -33,8 +33,8 @@ empty-content {K} (k ∷ keys) zero e = absurd (omega (arith, e))
 empty-content {K} (k ∷ keys) (suc m) e = ap (λ (l : List (Option K)). none ∷ l) (empty-content keys m (omega (arith, e)))
 
 -- and its content
-pub cleared-content : {K : Type 0} (places : List ℕ) (keys : List K) (m : ℕ) → places ≡ replicate m 0 → length keys ≡ m → contentOf places keys ≡ replicate (length places) none
-cleared-content places keys m e k = ap (λ (l : List ℕ). contentOf l keys) e ∙ empty-content keys m k ∙ ap (λ (n : ℕ). replicate n none) (sym (ap length e ∙ length-replicate m 0))
+pub cleared-content : {K : Type 0} (words : List ℕ) (keys : List K) (m : ℕ) → words ≡ replicate m 0 → length keys ≡ m → contentOf words keys ≡ replicate (length words) none
+cleared-content words keys m e k = ap (λ (l : List ℕ). contentOf l keys) e ∙ empty-content keys m k ∙ ap (λ (n : ℕ). replicate n none) (sym (ap length e ∙ length-replicate m 0))
 
 -- ---- the empty bag
 -- so many zeros
@@ -50,11 +50,17 @@ zeros-level m at size = record { holds = λ j p. getD-zeros m (at j) ∙ sym (ze
 
 -- no words
 zeros-peaks : (m : ℕ) → m ≤ 1024 → Peaks (zeros m) (zeros m)
-zeros-peaks m few = record { few = omega (arith, length-replicate {A = ℕ} m 0, few); same = refl; low = zeros-level m (λ j. j) 8; high = zeros-level m (λ j. length (zeros m) / 2 + j) 64; top = zeros-level m (λ j. length (zeros m) / 2 + length (zeros m) / 4 + j) 512 }
+zeros-peaks m few = record {
+  few = omega (arith, length-replicate {A = ℕ} m 0, few);
+  same = refl;
+  low = zeros-level m (λ j. j) 8;
+  high = zeros-level m (λ j. length (zeros m) / 2 + j) 64;
+  top = zeros-level m (λ j. length (zeros m) / 2 + length (zeros m) / 4 + j) 512;
+}
 
 -- where all is 0 the bag is empty
-pub cleared-bag : {K : Type 0} (o : Keys K) (heap places : List ℕ) (keys : List K) (m : ℕ) → m ≤ 1024 → heap ≡ zeros m → places ≡ zeros m → length keys ≡ m → Bag o heap places keys 0
-cleared-bag o heap places keys m few h e k =
+pub cleared-bag : {K : Type 0} (o : Keys K) (peaks words : List ℕ) (keys : List K) (m : ℕ) → m ≤ 1024 → peaks ≡ zeros m → words ≡ zeros m → length keys ≡ m → Bag o peaks words keys 0
+cleared-bag o peaks words keys m few h e k =
     rw (h, e)
     (record {
       long = k ∙ sym (length-replicate {A = ℕ} m 0);
@@ -73,9 +79,9 @@ held-none (zero ∷ ps) (suc v) e = held-none ps v e
 held-none (suc p ∷ ps) v e = absurd (omega (arith, e))
 
 -- so a bag of no pairs holds no key
-pub none-held : {K : Type 0} (d : K) (places : List ℕ) (keys : List K) → length keys ≡ length places → held places ≡ 0 → (v : ℕ) → getD (contentOf places keys) v none ≡ none
-none-held {K} d places keys long z v = go (getD (contentOf places keys) v none) refl
+pub none-held : {K : Type 0} (d : K) (words : List ℕ) (keys : List K) → length keys ≡ length words → held words ≡ 0 → (v : ℕ) → getD (contentOf words keys) v none ≡ none
+none-held {K} d words keys long z v = go (getD (contentOf words keys) v none) refl
   where
-    go : (x : Option K) → getD (contentOf places keys) v none ≡ x → getD (contentOf places keys) v none ≡ none
+    go : (x : Option K) → getD (contentOf words keys) v none ≡ x → getD (contentOf words keys) v none ≡ none
     go none e = e
-    go (some k) e = let h = held-place places keys d v k long e in absurd (omega (arith, h .1, held-none places v z))
+    go (some k) e = let h = held-place words keys d v k long e in absurd (omega (arith, h .1, held-none words v z))

@@ -3,7 +3,7 @@
 use mathlib.Core.Path.{_≡_, refl, sym, ap, subst, _∙_}
 use mathlib.Core.Bool.{Bool, true, false}
 use mathlib.Core.List.{List}
-use Prim.Native.Nat.{ℕ, zero, suc, _+_, _-_, _*_, _/_, _≤_, _<_, max, min}
+use Prim.Native.Nat.{ℕ, zero, suc, _+_, _-_, _*_, _/_, _≤_, _<_}
 use native.Mathlib.Omega.{arith}
 use native.Mathlib.Decide.{ℕ-discrete}
 use lib.Dec.{ltb, eqb}
@@ -52,7 +52,8 @@ first-is l i (suc n) w h = go (eqb (getD l i 0) w) refl (λ g. first-is l (i + 1
 pub first-eight : (l : List ℕ) (i end w : ℕ) → i + 8 ≤ end → w ≡ peak l i (span i end) → 0 < w → FirstOf l i (span i end) w (firstFrom l i 7 w)
 first-eight l i end w p e s =
     let n : span i end ≡ 8 = omega (arith, p) in
-    subst (λ (x : ℕ). FirstOf l i x w (firstFrom l i 7 w)) (sym n) (first-is l i 7 w (subst (λ (x : ℕ). Has l i x w) n (subst (Has l i (span i end)) (sym e) (peak-has l i (span i end) (subst (λ (x : ℕ). 0 < x) e s)))))
+    subst (λ (x : ℕ). FirstOf l i x w (firstFrom l i 7 w)) (sym n)
+    (first-is l i 7 w (subst (λ (x : ℕ). Has l i x w) n (subst (Has l i (span i end)) (sym e) (peak-has l i (span i end) (subst (λ (x : ℕ). 0 < x) e s)))))
 
 -- the largest of n entries is among them, whether or not the last is looked at
 pub first-found : (l : List ℕ) (i n w : ℕ) → Has l i n w → FirstOf l i n w (firstFrom l i n w)
@@ -91,90 +92,98 @@ peak-room l i s = go (length l) refl
     go (suc n) e = omega (arith, e)
 
 -- ---- from block to block
-module _ (heap places : List ℕ) (S : Peaks heap places) (w : ℕ) (most : w ≡ peak places 0 (length places)) where
+module _ (peaks words : List ℕ) (S : Peaks peaks words) (w : ℕ) (most : w ≡ peak words 0 (length words)) where
   abbrev middle : ℕ
-  middle = length places / 2
+  middle = length words / 2
 
   abbrev last : ℕ
-  last = length places / 2 + length places / 4
+  last = length words / 2 + length words / 4
 
   -- no word is larger
-  under : (u : ℕ) → u < length places → getD places u 0 ≤ w
-  under u p = subst (λ (x : ℕ). getD places u 0 ≤ x) (sym most) (peak-above places 0 (length places) u (omega arith) (omega (arith, p)))
+  under : (u : ℕ) → u < length words → getD words u 0 ≤ w
+  under u p = subst (λ (x : ℕ). getD words u 0 ≤ x) (sym most) (peak-above words 0 (length words) u (omega arith) (omega (arith, p)))
 
-  peak-under : (i n : ℕ) → peak places i n ≤ w
-  peak-under i n = peak-below places i n w (λ k a b. go k (ltb k (length places)) refl)
+  peak-under : (i n : ℕ) → peak words i n ≤ w
+  peak-under i n = peak-below words i n w (λ k a b. go k (ltb k (length words)) refl)
     where
-      go : (k : ℕ) (t : Bool) → ltb k (length places) ≡ t → getD places k 0 ≤ w
-      go k true e = under k (ltb-true k (length places) e)
-      go k false e = omega (arith, List·getD-eq-default places 0 {n = k} (ltb-false k (length places) e))
+      go : (k : ℕ) (t : Bool) → ltb k (length words) ≡ t → getD words k 0 ≤ w
+      go k true e = under k (ltb-true k (length words) e)
+      go k false e = omega (arith, List·getD-eq-default words 0 {n = k} (ltb-false k (length words) e))
 
   -- the first block of 512 that has w: the first of all, or the second
-  module _ (room : 0 < length places) where
-    top-front : w ≤ getD heap last 0 → FirstOf heap last ((length places + 511) / 512) w (last + 0)
+  module _ (room : 0 < length words) where
+    top-front : w ≤ getD peaks last 0 → FirstOf peaks last ((length words + 511) / 512) w (last + 0)
     top-front e =
-        let here : getD heap (last + 0) 0 ≡ peak places (0 * 512) 512 = S .top .holds 0 (omega (arith, room)) in
+        let here : getD peaks (last + 0) 0 ≡ peak words (0 * 512) 512 = S .top .holds 0 (omega (arith, room)) in
         let z : last + 0 ≡ last = omega arith in
-        let same = ap (λ (x : ℕ). getD heap x 0) z in
+        let same = ap (λ (x : ℕ). getD peaks x 0) z in
         record { from = omega arith; to = omega (arith, room); is = omega (arith, here, same, e, peak-under (0 * 512) 512); no-sooner = λ k a b f. omega (arith, a, b) }
 
-    top-back : getD heap last 0 < w → FirstOf heap last ((length places + 511) / 512) w (last + 1)
-    top-back e = go (ltb 512 (length places)) refl
+    top-back : getD peaks last 0 < w → FirstOf peaks last ((length words + 511) / 512) w (last + 1)
+    top-back e = go (ltb 512 (length words)) refl
       where
-        go : (t : Bool) → ltb 512 (length places) ≡ t → FirstOf heap last ((length places + 511) / 512) w (last + 1)
-        go false f = absurd (omega (arith, e, most, top-one heap places S room (ltb-false 512 (length places) f)))
+        go : (t : Bool) → ltb 512 (length words) ≡ t → FirstOf peaks last ((length words + 511) / 512) w (last + 1)
+        go false f = absurd (omega (arith, e, most, top-one peaks words S room (ltb-false 512 (length words) f)))
         go true f =
-            let many = ltb-true 512 (length places) f in
-            let both = peak-two heap last ∙ top-two heap places S many ∙ sym most in
-            record { from = omega arith; to = omega (arith, many); is = omega (arith, e, both); no-sooner = λ k a b g. let z : k ≡ last = omega (arith, a, b) in omega (arith, e, g, ap (λ (x : ℕ). getD heap x 0) z) }
+            let many = ltb-true 512 (length words) f in
+            let both = peak-two peaks last ∙ top-two peaks words S many ∙ sym most in
+            record {
+              from = omega arith;
+              to = omega (arith, many);
+              is = omega (arith, e, both);
+              no-sooner = λ k a b g. let z : k ≡ last = omega (arith, a, b) in omega (arith, e, g, ap (λ (x : ℕ). getD peaks x 0) z);
+            }
 
-    pub top-first : (r : ℕ) (t : Bool) → ltb (getD heap last 0) w ≡ t → r ≡ pick t 1 0 → FirstOf heap last ((length places + 511) / 512) w (last + r)
-    top-first r true e f = subst (λ (x : ℕ). FirstOf heap last ((length places + 511) / 512) w (last + x)) (sym f) (top-back (ltb-true (getD heap last 0) w e))
-    top-first r false e f = subst (λ (x : ℕ). FirstOf heap last ((length places + 511) / 512) w (last + x)) (sym f) (top-front (ltb-false (getD heap last 0) w e))
+    pub top-first : (r : ℕ) (t : Bool) → ltb (getD peaks last 0) w ≡ t → r ≡ pick t 1 0 → FirstOf peaks last ((length words + 511) / 512) w (last + r)
+    top-first r true e f = subst (λ (x : ℕ). FirstOf peaks last ((length words + 511) / 512) w (last + x)) (sym f) (top-back (ltb-true (getD peaks last 0) w e))
+    top-first r false e f = subst (λ (x : ℕ). FirstOf peaks last ((length words + 511) / 512) w (last + x)) (sym f) (top-front (ltb-false (getD peaks last 0) w e))
 
   -- in it
-  module _ (a : ℕ) (A : FirstOf heap last ((length places + 511) / 512) w (last + a)) where
-    a-in : a * 512 < length places
+  module _ (a : ℕ) (A : FirstOf peaks last ((length words + 511) / 512) w (last + a)) where
+    a-in : a * 512 < length words
     a-in = omega (arith, A .to)
 
-    pub top-right : w ≡ peak heap (middle + a * 8) (span (middle + a * 8) (middle + (length places + 63) / 64))
-    top-right = sym (A .is) ∙ S .top .holds a a-in ∙ sym (of-high heap places a (S .high) a-in)
+    pub top-right : w ≡ peak peaks (middle + a * 8) (span (middle + a * 8) (middle + (length words + 63) / 64))
+    top-right = sym (A .is) ∙ S .top .holds a a-in ∙ sym (of-high peaks words a (S .high) a-in)
 
     -- the first block of 64
-    module _ (h : ℕ) (H : FirstOf heap (middle + a * 8) (span (middle + a * 8) (middle + (length places + 63) / 64)) w h) where
+    module _ (h : ℕ) (H : FirstOf peaks (middle + a * 8) (span (middle + a * 8) (middle + (length words + 63) / 64)) w h) where
       -- it is its b-th
       abbrev b : ℕ
       b = h - middle
 
-      b-in : b * 64 < length places
+      b-in : b * 64 < length words
       b-in = omega (arith, H .from, H .to)
 
-      pub high-right : w ≡ peak heap (b * 8) (span (b * 8) ((length places + 7) / 8))
+      pub high-right : w ≡ peak peaks (b * 8) (span (b * 8) ((length words + 7) / 8))
       high-right =
           let e : middle + b ≡ h = omega (arith, H .from) in
-          sym (H .is) ∙ ap (λ (x : ℕ). getD heap x 0) (sym e) ∙ S .high .holds b b-in ∙ sym (of-low heap places b (S .low) b-in)
+          sym (H .is) ∙ ap (λ (x : ℕ). getD peaks x 0) (sym e) ∙ S .high .holds b b-in ∙ sym (of-low peaks words b (S .low) b-in)
 
       -- in it the first block of 8
-      module _ (c : ℕ) (C : FirstOf heap (b * 8) (span (b * 8) ((length places + 7) / 8)) w c) where
-        c-in : c * 8 < length places
+      module _ (c : ℕ) (C : FirstOf peaks (b * 8) (span (b * 8) ((length words + 7) / 8)) w c) where
+        c-in : c * 8 < length words
         c-in = omega (arith, C .from, C .to)
 
-        pub low-right : w ≡ peak places (c * 8) (span (c * 8) (length places))
-        low-right = sym (C .is) ∙ S .low .holds c c-in ∙ sym (group-end places (c * 8))
+        pub low-right : w ≡ peak words (c * 8) (span (c * 8) (length words))
+        low-right = sym (C .is) ∙ S .low .holds c c-in ∙ sym (group-end words (c * 8))
 
         -- and in it the first index
-        pub first-all : (r : ℕ) → FirstOf places (c * 8) (span (c * 8) (length places)) w r → FirstOf places 0 (length places) w r
+        pub first-all : (r : ℕ) → FirstOf words (c * 8) (span (c * 8) (length words)) w r → FirstOf words 0 (length words) w r
         first-all r R = record { from = omega arith; to = omega (arith, R .from, R .to); is = R .is; no-sooner = λ u p q z. none u (omega (arith, q, R .from, R .to)) q z }
           where
             -- a block that has w in it has it as its largest
-            largest : (at : ℕ → ℕ) (size u j : ℕ) → Level heap places at size → j * size ≤ u → u < j * size + size → u < length places → getD places u 0 ≡ w → getD heap (at j) 0 ≡ w
-            largest at size u j L from to p z = omega (arith, L .holds j (omega (arith, from, p)), z, peak-above places (j * size) size u from to, peak-under (j * size) size)
+            largest : (at : ℕ → ℕ) (size u j : ℕ) → Level peaks words at size → j * size ≤ u → u < j * size + size → u < length words → getD words u 0 ≡ w → getD peaks (at j) 0 ≡ w
+            largest at size u j L from to p z = omega (arith, L .holds j (omega (arith, from, p)), z, peak-above words (j * size) size u from to, peak-under (j * size) size)
 
-            none : (u : ℕ) → u < length places → u < r → getD places u 0 ≡ w → ⊥
+            none : (u : ℕ) → u < length words → u < r → getD words u 0 ≡ w → ⊥
             none u p q z = go (ltb u (c * 8)) refl (ltb (u / 8) (b * 8)) refl (ltb (u / 64) (a * 8)) refl
               where
                 go : (s : Bool) → ltb u (c * 8) ≡ s → (t : Bool) → ltb (u / 8) (b * 8) ≡ t → (x : Bool) → ltb (u / 64) (a * 8) ≡ x → ⊥
                 go false e t f x g = R .no-sooner u (ltb-false u (c * 8) e) q z
                 go true e false f x g = C .no-sooner (u / 8) (ltb-false (u / 8) (b * 8) f) (omega (arith, ltb-true u (c * 8) e)) (largest (λ j. j) 8 u (u / 8) (S .low) (omega arith) (omega arith) p z)
-                go true e true f false g = H .no-sooner (middle + u / 64) (omega (arith, ltb-false (u / 64) (a * 8) g)) (omega (arith, H .from, ltb-true (u / 8) (b * 8) f)) (largest (λ j. middle + j) 64 u (u / 64) (S .high) (omega arith) (omega arith) p z)
-                go true e true f true g = A .no-sooner (last + u / 512) (omega arith) (omega (arith, ltb-true (u / 64) (a * 8) g)) (largest (λ j. last + j) 512 u (u / 512) (S .top) (omega arith) (omega arith) p z)
+                go true e true f false g =
+                    H .no-sooner (middle + u / 64) (omega (arith, ltb-false (u / 64) (a * 8) g)) (omega (arith, H .from, ltb-true (u / 8) (b * 8) f))
+                    (largest (λ j. middle + j) 64 u (u / 64) (S .high) (omega arith) (omega arith) p z)
+                go true e true f true g =
+                    A .no-sooner (last + u / 512) (omega arith) (omega (arith, ltb-true (u / 64) (a * 8) g)) (largest (λ j. last + j) 512 u (u / 512) (S .top) (omega arith) (omega arith) p z)

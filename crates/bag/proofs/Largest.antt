@@ -6,16 +6,15 @@ use mathlib.Core.Path.{_≡_, refl, sym, ap, subst, _∙_}
 use mathlib.Core.Bool.{Bool, true, false}
 use mathlib.Core.List.{List}
 use mathlib.Core.Logic.{_⊎_, inl, inr}
-use Prim.Native.Nat.{ℕ, zero, suc, _+_, _-_, _*_, _/_, _≤_, _<_, max, min}
+use Prim.Native.Nat.{ℕ, zero, suc, _+_, _-_, _*_, _/_, _≤_, _<_, max}
 use native.Mathlib.Omega.{arith}
 use native.Mathlib.Decide.{ℕ-discrete}
 use native.Mathlib.Nat.{add-mul, one-mul, suc-mul, zero-mul}
-use lib.Dec.{ltb, eqb}
+use lib.Dec.{ltb}
 use lib.ListN.{getD, length, set, length-set, List·getD-eq-default}
 use lib.Seq.{getD-set-same, getD-set-other}
-use borrow.Author.Tests.{ltb-true, ltb-false, eqb-true, eqb-false}
-use Rattle.bag.specs.Order.{pick}
-use Rattle.bag.specs.Peaks.{peak, span, Level, Peaks, FirstOf, firstFrom}
+use borrow.Author.Tests.{ltb-true, ltb-false}
+use Rattle.bag.specs.Peaks.{peak, span, Level, Peaks}
 
 -- ---- the largest of a few entries
 -- of none, and of one more
@@ -48,13 +47,6 @@ peak-two l i = sym (peak-more l i 1 ∙ ap (max (getD l i 0)) (peak-one l (i + 1
 
 pub peak-halves : (l : List ℕ) (i a : ℕ) → max (peak l i a) (peak l (i + a) a) ≡ peak l i (a + a)
 peak-halves l i a = sym (peak-parts l i a a)
-
--- the entries up to k, and k
-pub peak-next : (l : List ℕ) (i k : ℕ) → i ≤ k → max (peak l i (k - i)) (getD l k 0) ≡ peak l i (k + 1 - i)
-peak-next l i k p =
-    let e : i + (k - i) ≡ k = omega (arith, p) in
-    let n : k + 1 - i ≡ k - i + 1 = omega (arith, p) in
-    sym (ap (peak l i) n ∙ peak-parts l i (k - i) 1 ∙ ap (max (peak l i (k - i))) (peak-one l (i + (k - i)) ∙ ap (λ (x : ℕ). getD l x 0) e))
 
 -- no entry of them is larger
 pub peak-above : (l : List ℕ) (i n k : ℕ) → i ≤ k → k < i + n → getD l k 0 ≤ peak l i n
@@ -153,20 +145,20 @@ group-end l i = go (ltb (length l) (i + 8)) refl
 
 -- ---- the largest of the largest
 -- of n parts of s entries, whose largest stand side by side
-pub peak-peaks : (heap l : List ℕ) (s i j n : ℕ) → ((k : ℕ) → k < n → getD heap (i + k) 0 ≡ peak l ((j + k) * s) s) → peak heap i n ≡ peak l (j * s) (n * s)
-peak-peaks heap l s i j zero f =
+pub peak-peaks : (peaks l : List ℕ) (s i j n : ℕ) → ((k : ℕ) → k < n → getD peaks (i + k) 0 ≡ peak l ((j + k) * s) s) → peak peaks i n ≡ peak l (j * s) (n * s)
+peak-peaks peaks l s i j zero f =
     let z : zero * s ≡ 0 = zero-mul s in
-    rw z (peak-none heap i ∙ sym (peak-none l (j * s)))
-peak-peaks heap l s i j (suc n) f =
-    let here : getD heap i 0 ≡ peak l (j * s) s = shift i j (omega arith) (omega arith) (f 0 (omega arith)) in
-    let rest = peak-peaks heap l s (i + 1) (j + 1) n (λ k p. shift (i + 1 + k) (j + 1 + k) (omega arith) (omega arith) (f (suc k) (omega (arith, p)))) in
+    rw z (peak-none peaks i ∙ sym (peak-none l (j * s)))
+peak-peaks peaks l s i j (suc n) f =
+    let here : getD peaks i 0 ≡ peak l (j * s) s = shift i j (omega arith) (omega arith) (f 0 (omega arith)) in
+    let rest = peak-peaks peaks l s (i + 1) (j + 1) n (λ k p. shift (i + 1 + k) (j + 1 + k) (omega arith) (omega arith) (f (suc k) (omega (arith, p)))) in
     let next : (j + 1) * s ≡ j * s + s = add-mul j 1 s ∙ ap (λ (x : ℕ). j * s + x) (one-mul s) in
     let many : suc n * s ≡ s + n * s = omega (arith, suc-mul n s) in
     let tail = rest ∙ ap (λ (x : ℕ). peak l x (n * s)) next in
-    rw many (omega (arith, peak-more heap i n, here, tail, peak-parts l (j * s) s (n * s)))
+    rw many (omega (arith, peak-more peaks i n, here, tail, peak-parts l (j * s) s (n * s)))
   where
-    shift : {a b : ℕ} (x y : ℕ) → a ≡ x → b ≡ y → getD heap a 0 ≡ peak l (b * s) s → getD heap x 0 ≡ peak l (y * s) s
-    shift x y p q e = sym (ap (λ (z : ℕ). getD heap z 0) p) ∙ e ∙ ap (λ (z : ℕ). peak l (z * s) s) q
+    shift : {a b : ℕ} (x y : ℕ) → a ≡ x → b ≡ y → getD peaks a 0 ≡ peak l (b * s) s → getD peaks x 0 ≡ peak l (y * s) s
+    shift x y p q e = sym (ap (λ (z : ℕ). getD peaks z 0) p) ∙ e ∙ ap (λ (z : ℕ). peak l (z * s) s) q
 
 -- ---- a level: the blocks of one size
 -- in which block a place stands: q is v's, and every other is away from v
@@ -197,32 +189,39 @@ block-512 v = record { from = omega arith; to = omega arith; away = λ j n. go j
     go j n false e = let h = ltb-false v (j * 512) e in inr (omega (arith, h, n))
 
 -- a level with one entry that may be wrong, that of block q
-pub record Unsettled (heap places : List ℕ) (at : ℕ → ℕ) (size q : ℕ) : Type 0 where
-  pub holds : (j : ℕ) → j * size < length places → (j ≡ q → ⊥) → getD heap (at j) 0 ≡ peak places (j * size) size
+pub record Unsettled (peaks words : List ℕ) (at : ℕ → ℕ) (size q : ℕ) : Type 0 where
+  pub holds : (j : ℕ) → j * size < length words → (j ≡ q → ⊥) → getD peaks (at j) 0 ≡ peak words (j * size) size
 
 -- a store to a place unsettles its block alone
-pub level-moved : (heap places : List ℕ) (at : ℕ → ℕ) (size v q w : ℕ) → Level heap places at size → Block size v q → Unsettled heap (set places v w) at size q
-level-moved heap places at size v q w L B = record { holds = λ j p n. L .holds j (subst (λ (x : ℕ). j * size < x) (length-set places v w) p) ∙ sym (peak-out places v w (j * size) size (B .away j n)) }
+pub level-moved : (peaks words : List ℕ) (at : ℕ → ℕ) (size v q w : ℕ) → Level peaks words at size → Block size v q → Unsettled peaks (set words v w) at size q
+level-moved peaks words at size v q w L B = record { holds = λ j p n. L .holds j (subst (λ (x : ℕ). j * size < x) (length-set words v w) p) ∙ sym (peak-out words v w (j * size) size (B .away j n)) }
 
 -- the right value settles it
-pub level-settled : (heap places : List ℕ) (at : ℕ → ℕ) (size q y : ℕ) → Unsettled heap places at size q → ((j : ℕ) → at j ≡ at q → j ≡ q) → at q < length heap → y ≡ peak places (q * size) size → Level (set heap (at q) y) places at size
-level-settled heap places at size q y U one in-heap e = record { holds = λ j p. go j p (ℕ-discrete j q) }
+pub level-settled : (peaks words : List ℕ) (at : ℕ → ℕ) (size q y : ℕ) → Unsettled peaks words at size q → ((j : ℕ) → at j ≡ at q → j ≡ q) → at q < length peaks → y ≡ peak words (q * size) size
+    → Level (set peaks (at q) y) words at size
+level-settled peaks words at size q y U one in-peaks e = record { holds = λ j p. go j p (ℕ-discrete j q) }
   where
-    go : (j : ℕ) → j * size < length places → Dec (j ≡ q) → getD (set heap (at q) y) (at j) 0 ≡ peak places (j * size) size
-    go j p (yes d) = subst (λ (x : ℕ). getD (set heap (at q) y) (at x) 0 ≡ peak places (x * size) size) (sym d) (getD-set-same heap (at q) y 0 in-heap ∙ e)
-    go j p (no d) = getD-set-other heap (at q) (at j) y 0 (λ z. d (one j z)) ∙ U .holds j p d
+    go : (j : ℕ) → j * size < length words → Dec (j ≡ q) → getD (set peaks (at q) y) (at j) 0 ≡ peak words (j * size) size
+    go j p (yes d) = subst (λ (x : ℕ). getD (set peaks (at q) y) (at x) 0 ≡ peak words (x * size) size) (sym d) (getD-set-same peaks (at q) y 0 in-peaks ∙ e)
+    go j p (no d) = getD-set-other peaks (at q) (at j) y 0 (λ z. d (one j z)) ∙ U .holds j p d
 
 -- a store elsewhere leaves it as it is
-pub unsettled-beside : (heap places : List ℕ) (at : ℕ → ℕ) (size q c y : ℕ) → Unsettled heap places at size q → ((j : ℕ) → j * size < length places → (j ≡ q → ⊥) → at j ≡ c → ⊥) → Unsettled (set heap c y) places at size q
-unsettled-beside heap places at size q c y U away = record { holds = λ j p n. getD-set-other heap c (at j) y 0 (away j p n) ∙ U .holds j p n }
+pub unsettled-beside : (peaks words : List ℕ) (at : ℕ → ℕ) (size q c y : ℕ) → Unsettled peaks words at size q → ((j : ℕ) → j * size < length words → (j ≡ q → ⊥) → at j ≡ c → ⊥)
+    → Unsettled (set peaks c y) words at size q
+unsettled-beside peaks words at size q c y U away = record { holds = λ j p n. getD-set-other peaks c (at j) y 0 (away j p n) ∙ U .holds j p n }
 
 -- and so does one that stores what stands there
-pub level-beside : (heap places : List ℕ) (at : ℕ → ℕ) (size c y : ℕ) → Level heap places at size → c < length heap → ((j : ℕ) → j * size < length places → at j ≡ c → y ≡ peak places (j * size) size) → Level (set heap c y) places at size
-level-beside heap places at size c y L in-heap right = record { holds = λ j p. go j p (ℕ-discrete (at j) c) }
+pub level-beside : (peaks words : List ℕ) (at : ℕ → ℕ) (size c y : ℕ) → Level peaks words at size → c < length peaks → ((j : ℕ) → j * size < length words → at j ≡ c → y ≡ peak words (j * size) size)
+    → Level (set peaks c y) words at size
+level-beside peaks words at size c y L in-peaks right = record { holds = λ j p. go j p (ℕ-discrete (at j) c) }
   where
-    go : (j : ℕ) → j * size < length places → Dec (at j ≡ c) → getD (set heap c y) (at j) 0 ≡ peak places (j * size) size
-    go j p (yes d) = subst (λ (x : ℕ). getD (set heap c y) x 0 ≡ peak places (j * size) size) (sym d) (getD-set-same heap c y 0 in-heap ∙ right j p d)
-    go j p (no d) = getD-set-other heap c (at j) y 0 d ∙ L .holds j p
+    go : (j : ℕ) → j * size < length words → Dec (at j ≡ c) → getD (set peaks c y) (at j) 0 ≡ peak words (j * size) size
+    go j p (yes d) = subst (λ (x : ℕ). getD (set peaks c y) x 0 ≡ peak words (j * size) size) (sym d) (getD-set-same peaks c y 0 in-peaks ∙ right j p d)
+    go j p (no d) = getD-set-other peaks c (at j) y 0 d ∙ L .holds j p
+
+-- and one that is no entry of it
+pub level-away : (peaks words : List ℕ) (at : ℕ → ℕ) (size c y : ℕ) → Level peaks words at size → ((j : ℕ) → j * size < length words → at j ≡ c → ⊥) → Level (set peaks c y) words at size
+level-away peaks words at size c y L away = record { holds = λ j p. getD-set-other peaks c (at j) y 0 (away j p) ∙ L .holds j p }
 
 -- where the three levels stand
 abbrev front : ℕ → ℕ
@@ -236,142 +235,207 @@ last m j = m / 2 + m / 4 + j
 
 -- ---- the entries of one level give those of the next
 -- eight of one size, or those that there are, give one of the size eight times as large
-pub eight-blocks : (heap places : List ℕ) (s i j n : ℕ) → ((k : ℕ) → k < n → getD heap (i + k) 0 ≡ peak places ((j + k) * s) s) → (n ≡ 8) ⊎ ((length places ≤ j * s + n * s) × (length places ≤ j * s + 8 * s)) → peak heap i n ≡ peak places (j * s) (8 * s)
-eight-blocks heap places s i j n f (inl e) = peak-peaks heap places s i j n f ∙ ap (λ (x : ℕ). peak places (j * s) (x * s)) e
-eight-blocks heap places s i j n f (inr e) = peak-peaks heap places s i j n f ∙ peak-reach places (j * s) (n * s) (8 * s) (e .0) (e .1)
+pub eight-blocks : (peaks words : List ℕ) (s i j n : ℕ) → ((k : ℕ) → k < n → getD peaks (i + k) 0 ≡ peak words ((j + k) * s) s)
+    → (n ≡ 8) ⊎ ((length words ≤ j * s + n * s) × (length words ≤ j * s + 8 * s)) → peak peaks i n ≡ peak words (j * s) (8 * s)
+eight-blocks peaks words s i j n f (inl e) = peak-peaks peaks words s i j n f ∙ ap (λ (x : ℕ). peak words (j * s) (x * s)) e
+eight-blocks peaks words s i j n f (inr e) = peak-peaks peaks words s i j n f ∙ peak-reach words (j * s) (n * s) (8 * s) (e .0) (e .1)
 
 -- the largest of 8 give those of 64
-pub of-low : (heap places : List ℕ) (q : ℕ) → Level heap places front 8 → q * 64 < length places → peak heap (q * 8) (span (q * 8) ((length places + 7) / 8)) ≡ peak places (q * 64) 64
-of-low heap places q L p =
-    let n = span (q * 8) ((length places + 7) / 8) in
+pub of-low : (peaks words : List ℕ) (q : ℕ) → Level peaks words front 8 → q * 64 < length words → peak peaks (q * 8) (span (q * 8) ((length words + 7) / 8)) ≡ peak words (q * 64) 64
+of-low peaks words q L p =
+    let n = span (q * 8) ((length words + 7) / 8) in
     let e : q * 8 * 8 ≡ q * 64 = omega arith in
-    eight-blocks heap places 8 (q * 8) (q * 8) n (λ k a. L .holds (q * 8 + k) (omega (arith, a))) (go (ltb (length places) (q * 64 + 64)) refl) ∙ ap (λ (x : ℕ). peak places x 64) e
+    eight-blocks peaks words 8 (q * 8) (q * 8) n (λ k a. L .holds (q * 8 + k) (omega (arith, a))) (go (ltb (length words) (q * 64 + 64)) refl) ∙ ap (λ (x : ℕ). peak words x 64) e
   where
-    go : (t : Bool) → ltb (length places) (q * 64 + 64) ≡ t → (span (q * 8) ((length places + 7) / 8) ≡ 8) ⊎ ((length places ≤ q * 8 * 8 + span (q * 8) ((length places + 7) / 8) * 8) × (length places ≤ q * 8 * 8 + 8 * 8))
-    go true e = let h = ltb-true (length places) (q * 64 + 64) e in inr (omega (arith, h, p), omega (arith, h))
-    go false e = let h = ltb-false (length places) (q * 64 + 64) e in inl (omega (arith, h))
+    go : (t : Bool) → ltb (length words) (q * 64 + 64) ≡ t
+        → (span (q * 8) ((length words + 7) / 8) ≡ 8) ⊎ ((length words ≤ q * 8 * 8 + span (q * 8) ((length words + 7) / 8) * 8) × (length words ≤ q * 8 * 8 + 8 * 8))
+    go true e = let h = ltb-true (length words) (q * 64 + 64) e in inr (omega (arith, h, p), omega (arith, h))
+    go false e = let h = ltb-false (length words) (q * 64 + 64) e in inl (omega (arith, h))
 
 -- those of 64 give those of 512
-pub of-high : (heap places : List ℕ) (q : ℕ) → Level heap places (middle (length places)) 64 → q * 512 < length places → peak heap (length places / 2 + q * 8) (span (length places / 2 + q * 8) (length places / 2 + (length places + 63) / 64)) ≡ peak places (q * 512) 512
-of-high heap places q L p =
-    let m = length places in
+pub of-high : (peaks words : List ℕ) (q : ℕ) → Level peaks words (middle (length words)) 64 → q * 512 < length words
+    → peak peaks (length words / 2 + q * 8) (span (length words / 2 + q * 8) (length words / 2 + (length words + 63) / 64)) ≡ peak words (q * 512) 512
+of-high peaks words q L p =
+    let m = length words in
     let n = span (m / 2 + q * 8) (m / 2 + (m + 63) / 64) in
     let e : q * 8 * 64 ≡ q * 512 = omega arith in
-    eight-blocks heap places 64 (m / 2 + q * 8) (q * 8) n (λ k a. let z : m / 2 + q * 8 + k ≡ m / 2 + (q * 8 + k) = omega arith in ap (λ (x : ℕ). getD heap x 0) z ∙ L .holds (q * 8 + k) (omega (arith, a))) (go (ltb (length places) (q * 512 + 512)) refl) ∙ ap (λ (x : ℕ). peak places x 512) e
+    eight-blocks peaks words 64 (m / 2 + q * 8) (q * 8) n
+    (λ k a. let z : m / 2 + q * 8 + k ≡ m / 2 + (q * 8 + k) = omega arith in ap (λ (x : ℕ). getD peaks x 0) z ∙ L .holds (q * 8 + k) (omega (arith, a))) (go (ltb (length words) (q * 512 + 512)) refl)
+    ∙ ap (λ (x : ℕ). peak words x 512) e
   where
-    go : (t : Bool) → ltb (length places) (q * 512 + 512) ≡ t → (span (length places / 2 + q * 8) (length places / 2 + (length places + 63) / 64) ≡ 8) ⊎ ((length places ≤ q * 8 * 64 + span (length places / 2 + q * 8) (length places / 2 + (length places + 63) / 64) * 64) × (length places ≤ q * 8 * 64 + 8 * 64))
-    go true e = let h = ltb-true (length places) (q * 512 + 512) e in inr (omega (arith, h, p), omega (arith, h))
-    go false e = let h = ltb-false (length places) (q * 512 + 512) e in inl (omega (arith, h))
+    go : (t : Bool) → ltb (length words) (q * 512 + 512) ≡ t
+        → (span (length words / 2 + q * 8) (length words / 2 + (length words + 63) / 64) ≡ 8) ⊎
+        ((length words ≤ q * 8 * 64 + span (length words / 2 + q * 8) (length words / 2 + (length words + 63) / 64) * 64) × (length words ≤ q * 8 * 64 + 8 * 64))
+    go true e = let h = ltb-true (length words) (q * 512 + 512) e in inr (omega (arith, h, p), omega (arith, h))
+    go false e = let h = ltb-false (length words) (q * 512 + 512) e in inl (omega (arith, h))
 
 -- those of 512, two at most, give the largest of all
-pub of-top : (heap places : List ℕ) → Level heap places (last (length places)) 512 → peak heap (length places / 2 + length places / 4) ((length places + 511) / 512) ≡ peak places 0 (length places)
-of-top heap places L =
-    let m = length places in
+pub of-top : (peaks words : List ℕ) → Level peaks words (last (length words)) 512 → peak peaks (length words / 2 + length words / 4) ((length words + 511) / 512) ≡ peak words 0 (length words)
+of-top peaks words L =
+    let m = length words in
     let t = m / 2 + m / 4 in
     let n = (m + 511) / 512 in
-    let parts = peak-peaks heap places 512 t 0 n (λ k a. let e : 0 + k ≡ k = omega arith in subst (λ (x : ℕ). getD heap (t + k) 0 ≡ peak places (x * 512) 512) (sym e) (L .holds k (omega (arith, a)))) in
+    let parts =
+    peak-peaks peaks words 512 t 0 n (λ k a. let e : 0 + k ≡ k = omega arith in subst (λ (x : ℕ). getD peaks (t + k) 0 ≡ peak words (x * 512) 512) (sym e) (L .holds k (omega (arith, a)))) in
     let z : 0 * 512 ≡ 0 = omega arith in
-    parts ∙ ap (λ (x : ℕ). peak places x (n * 512)) z ∙ peak-reach places 0 (n * 512) m (omega arith) (omega arith)
+    parts ∙ ap (λ (x : ℕ). peak words x (n * 512)) z ∙ peak-reach words 0 (n * 512) m (omega arith) (omega arith)
 
 -- ---- the word of v is replaced
 -- where two levels share an entry there is one block of each, and one value is right for both
-shared : (places : List ℕ) (a b i j y : ℕ) → i ≡ 0 → j ≡ 0 → length places ≤ a → length places ≤ b → y ≡ peak places i b → y ≡ peak places j a
-shared places a b i j y e f p q r = r ∙ ap (λ (x : ℕ). peak places x b) (e ∙ sym f) ∙ peak-reach places j b a (omega (arith, q)) (omega (arith, p))
+shared : (words : List ℕ) (a b i j y : ℕ) → i ≡ 0 → j ≡ 0 → length words ≤ a → length words ≤ b → y ≡ peak words i b → y ≡ peak words j a
+shared words a b i j y e f p q r = r ∙ ap (λ (x : ℕ). peak words x b) (e ∙ sym f) ∙ peak-reach words j b a (omega (arith, q)) (omega (arith, p))
 
-module _ (heap places : List ℕ) (v w : ℕ) (S : Peaks heap places) (in-places : v < length places) where
-  long : length (set places v w) ≡ length places
-  long = length-set places v w
+module _ (peaks words : List ℕ) (v w : ℕ) (S : Peaks peaks words) (in-words : v < length words) where
+  long : length (set words v w) ≡ length words
+  long = length-set words v w
 
   abbrev in-high : ℕ
-  in-high = length places / 2 + v / 64
+  in-high = length words / 2 + v / 64
 
   abbrev in-top : ℕ
-  in-top = length places / 2 + length places / 4 + v / 512
+  in-top = length words / 2 + length words / 4 + v / 512
 
   -- the largest of its 8 is set right
-  module _ (x : ℕ) (low-right : x ≡ peak (set places v w) (v / 8 * 8) 8) where
-    pub low-settled : Level (set heap (v / 8) x) (set places v w) front 8
-    low-settled = level-settled heap (set places v w) front 8 (v / 8) x (level-moved heap places front 8 v (v / 8) w (S .low) (block-8 v)) (λ j e. e) (omega (arith, S .same, in-places)) low-right
+  module _ (x : ℕ) (low-right : x ≡ peak (set words v w) (v / 8 * 8) 8) where
+    pub low-settled : Level (set peaks (v / 8) x) (set words v w) front 8
+    low-settled = level-settled peaks (set words v w) front 8 (v / 8) x (level-moved peaks words front 8 v (v / 8) w (S .low) (block-8 v)) (λ j e. e) (omega (arith, S .same, in-words)) low-right
 
     -- then the largest of its 64
-    module _ (y : ℕ) (high-right : y ≡ peak (set places v w) (v / 64 * 64) 64) where
-      room : in-high < length (set heap (v / 8) x)
-      room = omega (arith, length-set heap (v / 8) x, S .same, in-places)
+    module _ (y : ℕ) (high-right : y ≡ peak (set words v w) (v / 64 * 64) 64) where
+      room : in-high < length (set peaks (v / 8) x)
+      room = omega (arith, length-set peaks (v / 8) x, S .same, in-words)
 
-      room-top : in-top < length (set (set heap (v / 8) x) in-high y)
-      room-top = omega (arith, length-set (set heap (v / 8) x) in-high y, length-set heap (v / 8) x, S .same, in-places)
+      room-top : in-top < length (set (set peaks (v / 8) x) in-high y)
+      room-top = omega (arith, length-set (set peaks (v / 8) x) in-high y, length-set peaks (v / 8) x, S .same, in-words)
 
-      pub high-settled : Level (set (set heap (v / 8) x) in-high y) (set places v w) (middle (length places)) 64
-      high-settled = level-settled (set heap (v / 8) x) (set places v w) (middle (length places)) 64 (v / 64) y (unsettled-beside heap (set places v w) (middle (length places)) 64 (v / 64) (v / 8) x (level-moved heap places (middle (length places)) 64 v (v / 64) w (S .high) (block-64 v)) (λ j p n e. n (omega (arith, p, e, long, in-places)))) (λ j e. omega (arith, e)) room high-right
+      pub high-settled : Level (set (set peaks (v / 8) x) in-high y) (set words v w) (middle (length words)) 64
+      high-settled =
+          level-settled (set peaks (v / 8) x) (set words v w) (middle (length words)) 64 (v / 64) y
+          (unsettled-beside peaks (set words v w) (middle (length words)) 64 (v / 64) (v / 8) x (level-moved peaks words (middle (length words)) 64 v (v / 64) w (S .high) (block-64 v))
+          (λ j p n e. n (omega (arith, p, e, long, in-words))))
+          (λ j e. omega (arith, e)) room high-right
 
-      low-beside : Level (set (set heap (v / 8) x) in-high y) (set places v w) front 8
-      low-beside = level-beside (set heap (v / 8) x) (set places v w) front 8 in-high y low-settled room (λ j p e. shared (set places v w) 8 64 (v / 64 * 64) (j * 8) y (omega (arith, p, e, long, in-places)) (omega (arith, p, e, long, in-places)) (omega (arith, p, e, long, in-places)) (omega (arith, p, e, long, in-places)) high-right)
+      low-beside : Level (set (set peaks (v / 8) x) in-high y) (set words v w) front 8
+      low-beside =
+          level-beside (set peaks (v / 8) x) (set words v w) front 8 in-high y low-settled room (λ j p e.
+          shared (set words v w) 8 64 (v / 64 * 64) (j * 8) y (omega (arith, p, e, long, in-words)) (omega (arith, p, e, long, in-words)) (omega (arith, p, e, long, in-words))
+          (omega (arith, p, e, long, in-words)) high-right)
 
-      top-waits : Unsettled (set (set heap (v / 8) x) in-high y) (set places v w) (last (length places)) 512 (v / 512)
-      top-waits = unsettled-beside (set heap (v / 8) x) (set places v w) (last (length places)) 512 (v / 512) in-high y (unsettled-beside heap (set places v w) (last (length places)) 512 (v / 512) (v / 8) x (level-moved heap places (last (length places)) 512 v (v / 512) w (S .top) (block-512 v)) (λ j p n e. n (omega (arith, p, e, long, in-places)))) (λ j p n e. n (omega (arith, p, e, long, in-places)))
+      top-waits : Unsettled (set (set peaks (v / 8) x) in-high y) (set words v w) (last (length words)) 512 (v / 512)
+      top-waits =
+          unsettled-beside (set peaks (v / 8) x) (set words v w) (last (length words)) 512 (v / 512) in-high y
+          (unsettled-beside peaks (set words v w) (last (length words)) 512 (v / 512) (v / 8) x (level-moved peaks words (last (length words)) 512 v (v / 512) w (S .top) (block-512 v))
+          (λ j p n e. n (omega (arith, p, e, long, in-words))))
+          (λ j p n e. n (omega (arith, p, e, long, in-words)))
 
       -- and then the largest of its 512
-      pub peaks-settled : (z : ℕ) → z ≡ peak (set places v w) (v / 512 * 512) 512 → Peaks (set (set (set heap (v / 8) x) in-high y) in-top z) (set places v w)
+      pub peaks-settled : (z : ℕ) → z ≡ peak (set words v w) (v / 512 * 512) 512 → Peaks (set (set (set peaks (v / 8) x) in-high y) in-top z) (set words v w)
       peaks-settled z top-right = record {
         few = omega (arith, long, S .few);
-        same = length-set (set (set heap (v / 8) x) in-high y) in-top z ∙ length-set (set heap (v / 8) x) in-high y ∙ length-set heap (v / 8) x ∙ S .same ∙ sym long;
-        low = level-beside (set (set heap (v / 8) x) in-high y) (set places v w) front 8 in-top z low-beside room-top (λ j p e. shared (set places v w) 8 512 (v / 512 * 512) (j * 8) z (omega (arith, p, e, long, in-places)) (omega (arith, p, e, long, in-places)) (omega (arith, p, e, long, in-places)) (omega (arith, p, e, long, in-places)) top-right);
-        high = subst (λ (m : ℕ). Level (set (set (set heap (v / 8) x) in-high y) in-top z) (set places v w) (middle m) 64) (sym long) (level-beside (set (set heap (v / 8) x) in-high y) (set places v w) (middle (length places)) 64 in-top z high-settled room-top (λ j p e. shared (set places v w) 64 512 (v / 512 * 512) (j * 64) z (omega (arith, p, e, long, in-places)) (omega (arith, p, e, long, in-places)) (omega (arith, p, e, long, in-places)) (omega (arith, p, e, long, in-places)) top-right));
-        top = subst (λ (m : ℕ). Level (set (set (set heap (v / 8) x) in-high y) in-top z) (set places v w) (last m) 512) (sym long) (level-settled (set (set heap (v / 8) x) in-high y) (set places v w) (last (length places)) 512 (v / 512) z top-waits (λ j e. omega (arith, e)) room-top top-right);
+        same = length-set (set (set peaks (v / 8) x) in-high y) in-top z ∙ length-set (set peaks (v / 8) x) in-high y ∙ length-set peaks (v / 8) x ∙ S .same ∙ sym long;
+        low =
+            level-beside (set (set peaks (v / 8) x) in-high y) (set words v w) front 8 in-top z low-beside room-top (λ j p e.
+            shared (set words v w) 8 512 (v / 512 * 512) (j * 8) z (omega (arith, p, e, long, in-words)) (omega (arith, p, e, long, in-words)) (omega (arith, p, e, long, in-words))
+            (omega (arith, p, e, long, in-words)) top-right);
+        high =
+            subst (λ (m : ℕ). Level (set (set (set peaks (v / 8) x) in-high y) in-top z) (set words v w) (middle m) 64) (sym long)
+            (level-beside (set (set peaks (v / 8) x) in-high y) (set words v w) (middle (length words)) 64 in-top z high-settled room-top (λ j p e.
+            shared (set words v w) 64 512 (v / 512 * 512) (j * 64) z (omega (arith, p, e, long, in-words)) (omega (arith, p, e, long, in-words)) (omega (arith, p, e, long, in-words))
+            (omega (arith, p, e, long, in-words)) top-right));
+        top =
+            subst (λ (m : ℕ). Level (set (set (set peaks (v / 8) x) in-high y) in-top z) (set words v w) (last m) 512) (sym long)
+            (level-settled (set (set peaks (v / 8) x) in-high y) (set words v w) (last (length words)) 512 (v / 512) z top-waits (λ j e. omega (arith, e)) room-top top-right);
       }
 
 -- ---- what the functions leave
 -- an entry that grows to w, and then another or the same
-lift-lift : (heap : List ℕ) (c i w : ℕ) → c < length heap → max (getD (set heap c (max (getD heap c 0) w)) i 0) w ≡ max (getD heap i 0) w
-lift-lift heap c i w p = go (ℕ-discrete i c)
+lift-lift : (peaks : List ℕ) (c i w : ℕ) → c < length peaks → max (getD (set peaks c (max (getD peaks c 0) w)) i 0) w ≡ max (getD peaks i 0) w
+lift-lift peaks c i w p = go (ℕ-discrete i c)
   where
-    go : Dec (i ≡ c) → max (getD (set heap c (max (getD heap c 0) w)) i 0) w ≡ max (getD heap i 0) w
-    go (no d) = ap (λ (x : ℕ). max x w) (getD-set-other heap c i (max (getD heap c 0) w) 0 d)
+    go : Dec (i ≡ c) → max (getD (set peaks c (max (getD peaks c 0) w)) i 0) w ≡ max (getD peaks i 0) w
+    go (no d) = ap (λ (x : ℕ). max x w) (getD-set-other peaks c i (max (getD peaks c 0) w) 0 d)
     go (yes d) =
-        let a : getD (set heap c (max (getD heap c 0) w)) i 0 ≡ max (getD heap c 0) w = ap (λ (x : ℕ). getD (set heap c (max (getD heap c 0) w)) x 0) d ∙ getD-set-same heap c (max (getD heap c 0) w) 0 p in
-        omega (arith, a, ap (λ (x : ℕ). getD heap x 0) d)
+        let a : getD (set peaks c (max (getD peaks c 0) w)) i 0 ≡ max (getD peaks c 0) w =
+        ap (λ (x : ℕ). getD (set peaks c (max (getD peaks c 0) w)) x 0) d ∙ getD-set-same peaks c (max (getD peaks c 0) w) 0 p in
+        omega (arith, a, ap (λ (x : ℕ). getD peaks x 0) d)
 
 -- what stands for a block grows with the word in it
-block-grown : (heap places : List ℕ) (at : ℕ → ℕ) (size v q w : ℕ) → Level heap places at size → Block size v q → v < length places → getD places v 0 ≤ w → max (getD heap (at q) 0) w ≡ peak (set places v w) (q * size) size
-block-grown heap places at size v q w L B in-places grown = let in-q : q * size < length places = omega (arith, B .from, in-places) in ap (λ (x : ℕ). max x w) (L .holds q in-q) ∙ sym (peak-grown places v w (q * size) size in-places (B .from) (B .to) grown)
+block-grown : (peaks words : List ℕ) (at : ℕ → ℕ) (size v q w : ℕ) → Level peaks words at size → Block size v q → v < length words → getD words v 0 ≤ w
+    → max (getD peaks (at q) 0) w ≡ peak (set words v w) (q * size) size
+block-grown peaks words at size v q w L B in-words grown =
+    let in-q : q * size < length words = omega (arith, B .from, in-words) in ap (λ (x : ℕ). max x w) (L .holds q in-q) ∙ sym (peak-grown words v w (q * size) size in-words (B .from) (B .to) grown)
 
 -- after a raise
-pub peaks-raised : (heap places : List ℕ) (v w m : ℕ) (heap₁ heap₂ heap₃ : List ℕ) → Peaks heap places → v < length places → getD places v 0 ≤ w → m ≡ length places → heap₁ ≡ set heap (v / 8) (max (getD heap (v / 8) 0) w) → heap₂ ≡ set heap₁ (m / 2 + v / 64) (max (getD heap₁ (m / 2 + v / 64) 0) w) → heap₃ ≡ set heap₂ (m / 2 + m / 4 + v / 512) (max (getD heap₂ (m / 2 + m / 4 + v / 512) 0) w) → Peaks heap₃ (set places v w)
-peaks-raised heap places v w m heap₁ heap₂ heap₃ S in-places grown long e₁ e₂ e₃ =
-    let high = length places / 2 + v / 64 in
-    let top = length places / 2 + length places / 4 + v / 512 in
-    let x = max (getD heap (v / 8) 0) w in
-    let h₁ = set heap (v / 8) x in
+pub peaks-raised : (peaks words : List ℕ) (v w m : ℕ) (peaks₁ peaks₂ peaks₃ : List ℕ) → Peaks peaks words → v < length words → getD words v 0 ≤ w → m ≡ length words
+    → peaks₁ ≡ set peaks (v / 8) (max (getD peaks (v / 8) 0) w) → peaks₂ ≡ set peaks₁ (m / 2 + v / 64) (max (getD peaks₁ (m / 2 + v / 64) 0) w)
+    → peaks₃ ≡ set peaks₂ (m / 2 + m / 4 + v / 512) (max (getD peaks₂ (m / 2 + m / 4 + v / 512) 0) w) → Peaks peaks₃ (set words v w)
+peaks-raised peaks words v w m peaks₁ peaks₂ peaks₃ S in-words grown long e₁ e₂ e₃ =
+    let high = length words / 2 + v / 64 in
+    let top = length words / 2 + length words / 4 + v / 512 in
+    let x = max (getD peaks (v / 8) 0) w in
+    let h₁ = set peaks (v / 8) x in
     let y = max (getD h₁ high 0) w in
     let h₂ = set h₁ high y in
-    let in-low : v / 8 < length heap = omega (arith, S .same, in-places) in
-    let in-high : high < length h₁ = omega (arith, length-set heap (v / 8) x, S .same, in-places) in
-    let low-right = block-grown heap places front 8 v (v / 8) w (S .low) (block-8 v) in-places grown in
-    let high-right = lift-lift heap (v / 8) high w in-low ∙ block-grown heap places (middle (length places)) 64 v (v / 64) w (S .high) (block-64 v) in-places grown in
-    let top-right = lift-lift h₁ high top w in-high ∙ lift-lift heap (v / 8) top w in-low ∙ block-grown heap places (last (length places)) 512 v (v / 512) w (S .top) (block-512 v) in-places grown in
-    rw (e₃, e₂, e₁, long) (peaks-settled heap places v w S in-places x low-right y high-right (max (getD h₂ top 0) w) top-right)
+    let in-low : v / 8 < length peaks = omega (arith, S .same, in-words) in
+    let in-high : high < length h₁ = omega (arith, length-set peaks (v / 8) x, S .same, in-words) in
+    let low-right = block-grown peaks words front 8 v (v / 8) w (S .low) (block-8 v) in-words grown in
+    let high-right = lift-lift peaks (v / 8) high w in-low ∙ block-grown peaks words (middle (length words)) 64 v (v / 64) w (S .high) (block-64 v) in-words grown in
+    let top-right = lift-lift h₁ high top w in-high ∙ lift-lift peaks (v / 8) top w in-low ∙ block-grown peaks words (last (length words)) 512 v (v / 512) w (S .top) (block-512 v) in-words grown in
+    rw (e₃, e₂, e₁, long) (peaks-settled peaks words v w S in-words x low-right y high-right (max (getD h₂ top 0) w) top-right)
 
 -- after a clear
-pub peaks-cleared : (heap places : List ℕ) (v w m x y z : ℕ) → Peaks heap places → v < length places → m ≡ length places → x ≡ peak (set places v w) (v / 8 * 8) (span (v / 8 * 8) m) → y ≡ peak (set heap (v / 8) x) (v / 64 * 8) (span (v / 64 * 8) ((m + 7) / 8)) → z ≡ peak (set (set heap (v / 8) x) (m / 2 + v / 64) y) (m / 2 + v / 512 * 8) (span (m / 2 + v / 512 * 8) (m / 2 + (m + 63) / 64)) → Peaks (set (set (set heap (v / 8) x) (m / 2 + v / 64) y) (m / 2 + m / 4 + v / 512) z) (set places v w)
-peaks-cleared heap places v w m x y z S in-places long e₁ e₂ e₃ =
-    let p = set places v w in
-    let h₁ = set heap (v / 8) x in
-    let h₂ = set h₁ (length places / 2 + v / 64) y in
-    let same : length places ≡ length p = sym (length-set places v w) in
+pub peaks-cleared : (peaks words : List ℕ) (v w m x y z : ℕ) → Peaks peaks words → v < length words → m ≡ length words → x ≡ peak (set words v w) (v / 8 * 8) (span (v / 8 * 8) m)
+    → y ≡ peak (set peaks (v / 8) x) (v / 64 * 8) (span (v / 64 * 8) ((m + 7) / 8))
+    → z ≡ peak (set (set peaks (v / 8) x) (m / 2 + v / 64) y) (m / 2 + v / 512 * 8) (span (m / 2 + v / 512 * 8) (m / 2 + (m + 63) / 64))
+    → Peaks (set (set (set peaks (v / 8) x) (m / 2 + v / 64) y) (m / 2 + m / 4 + v / 512) z) (set words v w)
+peaks-cleared peaks words v w m x y z S in-words long e₁ e₂ e₃ =
+    let p = set words v w in
+    let h₁ = set peaks (v / 8) x in
+    let h₂ = set h₁ (length words / 2 + v / 64) y in
+    let same : length words ≡ length p = sym (length-set words v w) in
     let low : x ≡ peak p (v / 8 * 8) 8 = e₁ ∙ ap (λ (n : ℕ). peak p (v / 8 * 8) (span (v / 8 * 8) n)) (long ∙ same) ∙ group-end p (v / 8 * 8) in
-    let high : y ≡ peak p (v / 64 * 64) 64 = e₂ ∙ ap (λ (n : ℕ). peak h₁ (v / 64 * 8) (span (v / 64 * 8) ((n + 7) / 8))) (long ∙ same) ∙ of-low h₁ p (v / 64) (low-settled heap places v w S in-places x low) (omega (arith, same, in-places)) in
-    let settled = subst (λ (n : ℕ). Level h₂ p (middle n) 64) same (high-settled heap places v w S in-places x low y high) in
-    let top : z ≡ peak p (v / 512 * 512) 512 = e₃ ∙ ap (λ (n : ℕ). peak (set h₁ (n / 2 + v / 64) y) (n / 2 + v / 512 * 8) (span (n / 2 + v / 512 * 8) (n / 2 + (n + 63) / 64))) long ∙ ap (λ (n : ℕ). peak h₂ (n / 2 + v / 512 * 8) (span (n / 2 + v / 512 * 8) (n / 2 + (n + 63) / 64))) same ∙ of-high h₂ p (v / 512) settled (omega (arith, same, in-places)) in
-    rw long (peaks-settled heap places v w S in-places x low y high z top)
+    let high : y ≡ peak p (v / 64 * 64) 64 =
+    e₂ ∙ ap (λ (n : ℕ). peak h₁ (v / 64 * 8) (span (v / 64 * 8) ((n + 7) / 8))) (long ∙ same) ∙ of-low h₁ p (v / 64) (low-settled peaks words v w S in-words x low) (omega (arith, same, in-words)) in
+    let settled = subst (λ (n : ℕ). Level h₂ p (middle n) 64) same (high-settled peaks words v w S in-words x low y high) in
+    let top : z ≡ peak p (v / 512 * 512) 512 = e₃ ∙ ap (λ (n : ℕ). peak (set h₁ (n / 2 + v / 64) y) (n / 2 + v / 512 * 8) (span (n / 2 + v / 512 * 8) (n / 2 + (n + 63) / 64))) long
+    ∙ ap (λ (n : ℕ). peak h₂ (n / 2 + v / 512 * 8) (span (n / 2 + v / 512 * 8) (n / 2 + (n + 63) / 64))) same ∙ of-high h₂ p (v / 512) settled (omega (arith, same, in-words)) in
+    rw long (peaks-settled peaks words v w S in-words x low y high z top)
+
+-- after a note: the last entry is none of them
+pub peaks-noted : (peaks words : List ℕ) (v : ℕ) → Peaks peaks words → 4 < length words → Peaks (set peaks (length words - 1) v) words
+peaks-noted peaks words v S many = record {
+  few = S .few;
+  same = length-set peaks (length words - 1) v ∙ S .same;
+  low = level-away peaks words front 8 (length words - 1) v (S .low) (λ j p e. omega (arith, p, e, many));
+  high = level-away peaks words (middle (length words)) 64 (length words - 1) v (S .high) (λ j p e. omega (arith, p, e, many));
+  top = level-away peaks words (last (length words)) 512 (length words - 1) v (S .top) (λ j p e. omega (arith, p, e, many));
+}
+
+-- after the only word is gone
+pub peaks-emptied : (peaks words : List ℕ) (v m : ℕ) → Peaks peaks words → v < length words → ((u : ℕ) → 0 < getD words u 0 → u ≡ v) → m ≡ length words
+    → Peaks (set (set (set peaks (v / 8) 0) (m / 2 + v / 64) 0) (m / 2 + m / 4 + v / 512) 0) (set words v 0)
+peaks-emptied peaks words v m S in-words only long =
+    rw long (peaks-settled peaks words v 0 S in-words 0 (none (v / 8 * 8) 8) 0 (none (v / 64 * 64) 64) 0 (none (v / 512 * 512) 512))
+  where
+    gone : (k : ℕ) → Dec (k ≡ v) → getD (set words v 0) k 0 ≤ 0
+    gone k (yes d) = omega (arith, ap (λ (x : ℕ). getD (set words v 0) x 0) d, getD-set-same words v 0 0 in-words)
+    gone k (no d) = go (ℕ-discrete (getD words k 0) 0)
+      where
+        go : Dec (getD words k 0 ≡ 0) → getD (set words v 0) k 0 ≤ 0
+        go (yes e) = omega (arith, e, getD-set-other words v k 0 0 d)
+        go (no e) = absurd (d (only k (omega (arith, e))))
+
+    none : (i n : ℕ) → 0 ≡ peak (set words v 0) i n
+    none i n = let h = peak-below (set words v 0) i n 0 (λ k a b. gone k (ℕ-discrete k v)) in omega (arith, h)
 
 -- ---- the largest of all
 -- there is one block of 512, or there are two
-pub top-one : (heap places : List ℕ) → Peaks heap places → 0 < length places → length places ≤ 512 → getD heap (length places / 2 + length places / 4) 0 ≡ peak places 0 (length places)
-top-one heap places S some few =
-    let n : (length places + 511) / 512 ≡ 1 = omega (arith, some, few) in
-    sym (peak-one heap (length places / 2 + length places / 4)) ∙ ap (peak heap (length places / 2 + length places / 4)) (sym n) ∙ of-top heap places (S .top)
+pub top-one : (peaks words : List ℕ) → Peaks peaks words → 0 < length words → length words ≤ 512 → getD peaks (length words / 2 + length words / 4) 0 ≡ peak words 0 (length words)
+top-one peaks words S some few =
+    let n : (length words + 511) / 512 ≡ 1 = omega (arith, some, few) in
+    sym (peak-one peaks (length words / 2 + length words / 4)) ∙ ap (peak peaks (length words / 2 + length words / 4)) (sym n) ∙ of-top peaks words (S .top)
 
-pub top-two : (heap places : List ℕ) → Peaks heap places → 512 < length places → peak heap (length places / 2 + length places / 4) 2 ≡ peak places 0 (length places)
-top-two heap places S many =
-    let n : (length places + 511) / 512 ≡ 2 = omega (arith, many, S .few) in
-    ap (peak heap (length places / 2 + length places / 4)) (sym n) ∙ of-top heap places (S .top)
+pub top-two : (peaks words : List ℕ) → Peaks peaks words → 512 < length words → peak peaks (length words / 2 + length words / 4) 2 ≡ peak words 0 (length words)
+top-two peaks words S many =
+    let n : (length words + 511) / 512 ≡ 2 = omega (arith, many, S .few) in
+    ap (peak peaks (length words / 2 + length words / 4)) (sym n) ∙ of-top peaks words (S .top)

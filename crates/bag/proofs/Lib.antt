@@ -1,4 +1,3 @@
-pub mod Weak
 pub mod Order
 pub mod Largest
 pub mod Firsts
@@ -8,3 +7,4 @@ pub mod Words
 pub mod Ranks
 pub mod Empty
 pub mod Least
+pub mod One

@@ -9,13 +9,14 @@ use Rattle.bag.specs.Keys.{Keys}
 use Rattle.bag.specs.Content.{held}
 use Rattle.bag.specs.Peaks.{Peaks}
 
--- the three lent lists stand for a bag of n pairs: each index that is pending has the word of its pair. An engine hands this on, and looks at none of its fields
-pub record Bag {K : Type 0} (o : Keys K) (heap places : List ℕ) (keys : List K) (n : ℕ) : Type 0 where
-  pub long : length keys ≡ length places
-  pub many : n ≡ held places
-  pub word : (v : ℕ) → 0 < getD places v 0 → getD places v 0 ≡ o .word (getD keys v (o .none)) v
-  pub okay : (v : ℕ) → 0 < getD places v 0 → o .ok (getD keys v (o .none))
-  pub shape : Peaks heap places
+-- the three lent lists stand for a bag of n pairs: each index that is pending has the word of its pair.
+-- An engine hands this on, and looks at none of its fields
+pub record Bag {K : Type 0} (o : Keys K) (peaks words : List ℕ) (keys : List K) (n : ℕ) : Type 0 where
+  pub long : length keys ≡ length words
+  pub many : n ≡ held words
+  pub word : (v : ℕ) → 0 < getD words v 0 → getD words v 0 ≡ o .word (getD keys v (o .none)) v
+  pub okay : (v : ℕ) → 0 < getD words v 0 → o .ok (getD keys v (o .none))
+  pub shape : Peaks peaks words
 
 -- k is not above the key that v has, if it has one
 pub record NotAbove {K : Type 0} (o : Keys K) (content : List (Option K)) (v : ℕ) (k : K) : Type 0 where

@@ -12,7 +12,7 @@ abbrev pub entry : {K : Type 0} → ℕ → K → Option K
 entry zero k = none
 entry (suc p) k = some k
 
--- the content that places and keys stand for; the two lists are equally long
+-- the content that words and keys stand for; the two lists are equally long
 unfoldable pub contentOf : {K : Type 0} → List ℕ → List K → List (Option K)
 contentOf [] ks = []
 contentOf (p ∷ ps) [] = []
@@ -23,11 +23,6 @@ unfoldable pub held : List ℕ → ℕ
 held [] = 0
 held (zero ∷ ps) = held ps
 held (suc p ∷ ps) = suc (held ps)
-
--- the same indices have a place
-pub record SameIn (a b : List ℕ) : Type 0 where
-  pub still-out : (v : ℕ) → getD a v 0 ≡ 0 → getD b v 0 ≡ 0
-  pub was-out : (v : ℕ) → getD b v 0 ≡ 0 → getD a v 0 ≡ 0
 
 -- (k, v) is the least pair of the content: it is held, and no pair that is held stands before it
 pub record IsLeast {K : Type 0} (lt : K → K → Bool) (content : List (Option K)) (k : K) (v : ℕ) : Type 0 where

@@ -15,17 +15,17 @@ peak l i (suc n) = max (getD l i 0) (peak l (i + 1) n)
 abbrev pub span : ℕ → ℕ → ℕ
 span i end = min 8 (end - i)
 
--- the largest of the j-th `size` places stands at entry `at j` of heap
-pub record Level (heap places : List ℕ) (at : ℕ → ℕ) (size : ℕ) : Type 0 where
-  pub holds : (j : ℕ) → j * size < length places → getD heap (at j) 0 ≡ peak places (j * size) size
+-- the largest of the j-th `size` words stands at entry `at j` of peaks
+pub record Level (peaks words : List ℕ) (at : ℕ → ℕ) (size : ℕ) : Type 0 where
+  pub holds : (j : ℕ) → j * size < length words → getD peaks (at j) 0 ≡ peak words (j * size) size
 
--- the largest of each 8 places stand at the front of heap, those of each 64 from its middle on, and those of each 512 in its last quarter
-pub record Peaks (heap places : List ℕ) : Type 0 where
-  pub few : length places ≤ 1024
-  pub same : length heap ≡ length places
-  pub low : Level heap places (λ j. j) 8
-  pub high : Level heap places (λ j. length places / 2 + j) 64
-  pub top : Level heap places (λ j. length places / 2 + length places / 4 + j) 512
+-- the largest of each 8 words stand at the front of peaks, those of each 64 from its middle on, and those of each 512 in its last quarter
+pub record Peaks (peaks words : List ℕ) : Type 0 where
+  pub few : length words ≤ 1024
+  pub same : length peaks ≡ length words
+  pub low : Level peaks words (λ j. j) 8
+  pub high : Level peaks words (λ j. length words / 2 + j) 64
+  pub top : Level peaks words (λ j. length words / 2 + length words / 4 + j) 512
 
 -- r is the first of n entries from i on that is w
 pub record FirstOf (l : List ℕ) (i n w r : ℕ) : Type 0 where

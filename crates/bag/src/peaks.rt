@@ -1,11 +1,13 @@
-// Words over lent memory, and where the largest is: each index has a word in `places`, 0 where it has none, and in `heap`
+// Words over lent memory, and where the largest is: each index has a word in `words`, 0 where it has none, and in `peaks`
 // stand the largest of each 8 words, from its front on, of each 64, from its middle on, and of each 512, in its last quarter.
+// The last entry of peaks, where no largest word stands there, names the index whose word grew last.
 // No branch depends on a word, for which of two is larger is what no processor can foresee.
 ghost use mathlib.Core.Path.{_≡_};
-ghost use Prim.Native.Nat.{_+_, _-_, _/_, _≤_, _<_, max};
+ghost use Prim.Native.Nat.{ℕ, _+_, _-_, _/_, _≤_, _<_, max};
 ghost use lib.Dec.{eqb};
 ghost use lib.ListN.{length, getD, set};
 ghost use Rattle.bag.specs.Order.{pick};
+ghost use Rattle.bag.specs.Content.{held};
 ghost use Rattle.bag.specs.Peaks.{peak, span, Peaks, FirstOf, firstFrom};
 
 // The larger of two words.
@@ -42,18 +44,38 @@ fn of_eight(list: &[usize], i: usize) -> usize
     larger(of_four(list, i), of_four(list, i + 4))
 }
 
-// The largest of the words from i on that stand before the end, few as they are.
-fn of_rest(list: &[usize], i: usize, end: usize) -> usize
-    requires { ⌜ (end ≤ length (now list)) × (length (now list) ≤ 1024) ⌝ }
+// The word at i if that stands before the end, else 0.
+fn of_one(list: &[usize], i: usize, end: usize) -> usize
+    requires { ⌜ (end ≤ length (now list)) × (length (now list) ≤ 1024) × (i ≤ 1024) × (end < i + 2) ⌝ }
     ensures { λ r. ⌜ r ≡ peak (now (list .entry)) i (end - i) ⌝ }
 {
-    let mut w: usize = 0;
-    let mut k = i;
-    while k < end {
-        w = larger(w, list[k]);
-        k += 1;
+    if i < end {
+        return list[i];
     }
-    w
+    0
+}
+
+// The largest of the words from i on that stand before the end, fewer than four.
+fn of_three(list: &[usize], i: usize, end: usize) -> usize
+    requires { ⌜ (end ≤ length (now list)) × (length (now list) ≤ 1024) × (i ≤ 1024) × (end < i + 4) ⌝ }
+    ensures { λ r. ⌜ r ≡ peak (now (list .entry)) i (end - i) ⌝ }
+{
+    if i + 2 <= end {
+        return larger(of_two(list, i), of_one(list, i + 2, end));
+    }
+    of_one(list, i, end)
+}
+
+// The same, fewer than eight. There is no loop: a compiler would read several words at a time in it, and wait for a store
+// just made to one of them.
+fn of_rest(list: &[usize], i: usize, end: usize) -> usize
+    requires { ⌜ (end ≤ length (now list)) × (length (now list) ≤ 1024) × (i ≤ 1024) × (end < i + 8) ⌝ }
+    ensures { λ r. ⌜ r ≡ peak (now (list .entry)) i (end - i) ⌝ }
+{
+    if i + 4 <= end {
+        return larger(of_four(list, i), of_three(list, i + 4, end));
+    }
+    of_three(list, i, end)
 }
 
 // The largest of the eight words from i on, or of those of them that stand before the end.
@@ -68,55 +90,118 @@ fn of_group(list: &[usize], i: usize, end: usize) -> usize
 }
 
 // The entry i grows to w, unless it is larger.
-fn lift(heap: &mut [usize], i: usize, w: usize)
-    requires { ⌜ i < length (now heap) ⌝ }
-    ensures { λ _. ⌜ now (heap .exit) ≡ set (now (heap .entry)) i (max (getD (now (heap .entry)) i 0) w) ⌝ }
+fn lift(peaks: &mut [usize], i: usize, w: usize)
+    requires { ⌜ i < length (now peaks) ⌝ }
+    ensures { λ _. ⌜ now (peaks .exit) ≡ set (now (peaks .entry)) i (max (getD (now (peaks .entry)) i 0) w) ⌝ }
 {
-    heap[i] = larger(heap[i], w);
+    peaks[i] = larger(peaks[i], w);
+}
+
+// The last entry of peaks names v, where no largest word stands there.
+fn note(peaks: &mut [usize], words: &[usize], v: usize)
+    requires { ⌜ Peaks (now peaks) (now words) ⌝ }
+    ensures { λ _. ⌜ Peaks (now (peaks .exit)) (now (words .entry)) ⌝ }
+{
+    let m = words.len();
+    if 4 < m {
+        peaks[m - 1] = v;
+    }
 }
 
 // v's word grows to w.
-pub fn raise(heap: &mut [usize], places: &mut [usize], v: usize, w: usize)
-    requires { ⌜ (v < length (now places)) × (getD (now places) v 0 ≤ w) ⌝ }
-    requires { ⌜ Peaks (now heap) (now places) ⌝ }
-    ensures { λ _. ⌜ now (places .exit) ≡ set (now (places .entry)) v w ⌝ }
-    ensures { λ _. ⌜ Peaks (now (heap .exit)) (now (places .exit)) ⌝ }
+fn raise(peaks: &mut [usize], words: &mut [usize], v: usize, w: usize)
+    requires { ⌜ (v < length (now words)) × (getD (now words) v 0 ≤ w) ⌝ }
+    requires { ⌜ Peaks (now peaks) (now words) ⌝ }
+    ensures { λ _. ⌜ now (words .exit) ≡ set (now (words .entry)) v w ⌝ }
+    ensures { λ _. ⌜ Peaks (now (peaks .exit)) (now (words .exit)) ⌝ }
 {
-    places[v] = w;
-    let m = places.len();
-    lift(heap, v / 8, w);
-    lift(heap, m / 2 + v / 64, w);
-    lift(heap, m / 2 + m / 4 + v / 512, w);
+    words[v] = w;
+    let m = words.len();
+    lift(peaks, v / 8, w);
+    lift(peaks, m / 2 + v / 64, w);
+    lift(peaks, m / 2 + m / 4 + v / 512, w);
+    note(peaks, words, v);
+}
+
+// The same where there are n words. Gives how many there are then.
+pub fn add(peaks: &mut [usize], words: &mut [usize], n: usize, v: usize, w: usize) -> usize
+    requires { ⌜ (v < length (now words)) × (getD (now words) v 0 ≤ w) × (0 < w) ⌝ }
+    requires { ⌜ Peaks (now peaks) (now words) ⌝ }
+    requires { ⌜ n ≡ held (now words) ⌝ }
+    ensures { λ _. ⌜ now (words .exit) ≡ set (now (words .entry)) v w ⌝ }
+    ensures { λ _. ⌜ Peaks (now (peaks .exit)) (now (words .exit)) ⌝ }
+    ensures { λ r. ⌜ r ≡ held (now (words .exit)) ⌝ }
+{
+    let old = words[v];
+    raise(peaks, words, v, w);
+    if old == 0 {
+        return n + 1;
+    }
+    n
 }
 
 // v's word becomes 0.
-pub fn clear(heap: &mut [usize], places: &mut [usize], v: usize)
-    requires { ⌜ v < length (now places) ⌝ }
-    requires { ⌜ Peaks (now heap) (now places) ⌝ }
-    ensures { λ _. ⌜ now (places .exit) ≡ set (now (places .entry)) v 0 ⌝ }
-    ensures { λ _. ⌜ Peaks (now (heap .exit)) (now (places .exit)) ⌝ }
+pub fn clear(peaks: &mut [usize], words: &mut [usize], v: usize)
+    requires { ⌜ v < length (now words) ⌝ }
+    requires { ⌜ Peaks (now peaks) (now words) ⌝ }
+    ensures { λ _. ⌜ now (words .exit) ≡ set (now (words .entry)) v 0 ⌝ }
+    ensures { λ _. ⌜ Peaks (now (peaks .exit)) (now (words .exit)) ⌝ }
 {
-    places[v] = 0;
-    let m = places.len();
-    let low = of_group(places, v / 8 * 8, m);
-    heap[v / 8] = low;
-    let high = of_group(heap, v / 64 * 8, (m + 7) / 8);
-    heap[m / 2 + v / 64] = high;
-    let top = of_group(heap, m / 2 + v / 512 * 8, m / 2 + (m + 63) / 64);
-    heap[m / 2 + m / 4 + v / 512] = top;
+    words[v] = 0;
+    let m = words.len();
+    let low = of_group(words, v / 8 * 8, m);
+    peaks[v / 8] = low;
+    let high = of_group(peaks, v / 64 * 8, (m + 7) / 8);
+    peaks[m / 2 + v / 64] = high;
+    let top = of_group(peaks, m / 2 + v / 512 * 8, m / 2 + (m + 63) / 64);
+    peaks[m / 2 + m / 4 + v / 512] = top;
+}
+
+// v's word, the only one, becomes 0.
+pub fn empty(peaks: &mut [usize], words: &mut [usize], v: usize)
+    requires { ⌜ v < length (now words) ⌝ }
+    requires { ⌜ Peaks (now peaks) (now words) ⌝ }
+    requires { ⌜ ((u : ℕ) → 0 < getD (now words) u 0 → u ≡ v) ⌝ }
+    ensures { λ _. ⌜ now (words .exit) ≡ set (now (words .entry)) v 0 ⌝ }
+    ensures { λ _. ⌜ Peaks (now (peaks .exit)) (now (words .exit)) ⌝ }
+{
+    words[v] = 0;
+    let m = words.len();
+    peaks[v / 8] = 0;
+    peaks[m / 2 + v / 64] = 0;
+    peaks[m / 2 + m / 4 + v / 512] = 0;
+}
+
+// Where n is 1, the index that the last entry of peaks names, if it has a word; else the number of words.
+pub fn lone(peaks: &[usize], words: &[usize], n: usize) -> usize
+    requires { ⌜ (length (now peaks) ≡ length (now words)) × (0 < length (now words)) ⌝ }
+    ensures { λ r. ⌜ (r < length (now (words .entry)) → (n ≡ 1) × (0 < getD (now (words .entry)) r 0)) ⌝ }
+{
+    let m = words.len();
+    if n != 1 {
+        return m;
+    }
+    let v = peaks[m - 1];
+    if m <= v {
+        return m;
+    }
+    if words[v] == 0 {
+        return m;
+    }
+    v
 }
 
 // The largest word.
-pub fn largest(heap: &[usize], places: &[usize]) -> usize
-    requires { ⌜ Peaks (now heap) (now places) × (0 < length (now places)) ⌝ }
-    ensures { λ r. ⌜ r ≡ peak (now (places .entry)) 0 (length (now (places .entry))) ⌝ }
+pub fn largest(peaks: &[usize], words: &[usize]) -> usize
+    requires { ⌜ Peaks (now peaks) (now words) × (0 < length (now words)) ⌝ }
+    ensures { λ r. ⌜ r ≡ peak (now (words .entry)) 0 (length (now (words .entry))) ⌝ }
 {
-    let m = places.len();
+    let m = words.len();
     let top = m / 2 + m / 4;
     if m <= 512 {
-        return heap[top];
+        return peaks[top];
     }
-    of_two(heap, top)
+    of_two(peaks, top)
 }
 
 // The entry i where it is w, else r.
@@ -172,28 +257,32 @@ fn first_of_group(list: &[usize], i: usize, end: usize, w: usize) -> usize
 }
 
 // The first block of 512 that has w, which is the largest word.
-fn first_top(heap: &[usize], places: &[usize], w: usize) -> usize
-    requires { ⌜ Peaks (now heap) (now places) × (0 < length (now places)) ⌝ }
-    requires { ⌜ w ≡ peak (now places) 0 (length (now places)) ⌝ }
-    ensures { λ r. ⌜ FirstOf (now (heap .entry)) (length (now (places .entry)) / 2 + length (now (places .entry)) / 4) ((length (now (places .entry)) + 511) / 512) w (length (now (places .entry)) / 2 + length (now (places .entry)) / 4 + r) ⌝ }
+fn first_top(peaks: &[usize], words: &[usize], w: usize) -> usize
+    requires { ⌜ Peaks (now peaks) (now words) × (0 < length (now words)) ⌝ }
+    requires { ⌜ w ≡ peak (now words) 0 (length (now words)) ⌝ }
+    ensures { λ r. ⌜ FirstOf (now (peaks .entry))
+        (length (now (words .entry)) / 2 + length (now (words .entry)) / 4)
+        ((length (now (words .entry)) + 511) / 512) w
+        (length (now (words .entry)) / 2 + length (now (words .entry)) / 4 + r) ⌝ }
 {
-    let m = places.len();
-    if heap[m / 2 + m / 4] < w {
+    let m = words.len();
+    if peaks[m / 2 + m / 4] < w {
         return 1;
     }
     0
 }
 
 // The first index that has the largest word, which is not 0.
-pub fn first(heap: &[usize], places: &[usize]) -> usize
-    requires { ⌜ Peaks (now heap) (now places) ⌝ }
-    requires { ⌜ 0 < peak (now places) 0 (length (now places)) ⌝ }
-    ensures { λ r. ⌜ FirstOf (now (places .entry)) 0 (length (now (places .entry))) (peak (now (places .entry)) 0 (length (now (places .entry)))) r ⌝ }
+pub fn first(peaks: &[usize], words: &[usize]) -> usize
+    requires { ⌜ Peaks (now peaks) (now words) ⌝ }
+    requires { ⌜ 0 < peak (now words) 0 (length (now words)) ⌝ }
+    ensures { λ r. ⌜ FirstOf (now (words .entry)) 0 (length (now (words .entry)))
+        (peak (now (words .entry)) 0 (length (now (words .entry)))) r ⌝ }
 {
-    let m = places.len();
-    let w = largest(heap, places);
-    let top = first_top(heap, places, w);
-    let high = first_of_group(heap, m / 2 + top * 8, m / 2 + (m + 63) / 64, w);
-    let low = first_of_group(heap, (high - m / 2) * 8, (m + 7) / 8, w);
-    first_of_group(places, low * 8, m, w)
+    let m = words.len();
+    let w = largest(peaks, words);
+    let top = first_top(peaks, words, w);
+    let high = first_of_group(peaks, m / 2 + top * 8, m / 2 + (m + 63) / 64, w);
+    let low = first_of_group(peaks, (high - m / 2) * 8, (m + 7) / 8, w);
+    first_of_group(words, low * 8, m, w)
 }

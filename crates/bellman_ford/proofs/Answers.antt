@@ -6,17 +6,19 @@
 use mathlib.Core.Path.{_≡_, refl, sym, ap, _∙_, subst}
 use mathlib.Core.Bool.{Bool, true, false}
 use mathlib.Core.List.{List}
-use Prim.Native.Nat.{ℕ, _+_, _≤_}
+use Prim.Native.Nat.{ℕ, _≤_}
 use lib.IntN.{ℤ, pos}
 use lib.ListN.{length}
+use Rattle.numbers.specs.Numbers.{here, past}
 use Rattle.clean.specs.Fill.{filled}
 use Rattle.clean.specs.None.{noneI64}
 use Rattle.clean.proofs.Filled.{filled-at, settle}
-use Rattle.net.specs.Net.{Net, has, sizeOf}
+use Rattle.walks.proofs.Walk.{not-both}
+use Rattle.net.specs.Net.{Net, has, mostArcsOf}
 use Rattle.rows.specs.Kept.{Kept, KeptLists}
-use Rattle.rows.proofs.Kept.{kept-none, kept-more, kept-filled, kept-same, kept-twice, needs-kept, lists-wiped, wiped-rows}
-use Rattle.bellman_ford.specs.Promise.{Scratch, Buffers, wipedAll, clear, blank, Promise, unknown, negative, done}
-use Rattle.bellman_ford.specs.Parts.{Room, Ripe, Solved}
+use Rattle.rows.proofs.Kept.{kept-none, kept-more, kept-filled, kept-same, kept-twice, lists-kept, lists-wiped, wiped-rows}
+use Rattle.bellman_ford.specs.Promise.{Scratch, Buffers, wipedAll, clear, Promise}
+use Rattle.bellman_ford.specs.Parts.{EnoughScratch, Ripe, Solved}
 use Rattle.bellman_ford.proofs.Refusals.{Passed}
 
 -- scratch of which only the part used changed
@@ -32,11 +34,11 @@ scratch-same = record { rows = record { offsets = kept-none; heads = kept-none; 
 
 module _ {m a : ℕ} {s t : Scratch} where
   -- it is as long as it was
-  room-kept : Room m a s → KeptScratch m a s t → Room m a t
-  room-kept r k = record { rows = needs-kept (r .rows) (k .rows); queue = rw (k .queue .long) (r .queue); queued = rw (k .queued .long) (r .queued); lengths = rw (k .lengths .long) (r .lengths) }
+  room-kept : EnoughScratch m a s → KeptScratch m a s t → EnoughScratch m a t
+  room-kept r k = record { rows = lists-kept (r .rows) (k .rows); queue = rw (k .queue .long) (r .queue); queued = rw (k .queued .long) (r .queued); lengths = rw (k .lengths .long) (r .lengths) }
 
   -- wiped scratch is such
-  pub scratch-wiped : Room m a s → t ≡ wipedAll m a s → KeptScratch m a s t
+  pub scratch-wiped : EnoughScratch m a s → t ≡ wipedAll m a s → KeptScratch m a s t
   scratch-wiped r e = record {
     rows = lists-wiped (pos 0) (r .rows) (ap (λ (x : Scratch). x .rows) e);
     queue = kept-filled 0 (r .queue) (ap (λ (x : Scratch). x .queue) e);
@@ -67,24 +69,24 @@ abbrev pub prepared : ℕ → Scratch → Scratch
 prepared m s = record { rows = s .rows; queue = s .queue; queued = filled m 0 (s .queued); lengths = filled m 0 (s .lengths) }
 
 -- a map that is not refused, and the number a that the code computed
-module _ {g : Net ℤ} {b : Buffers} (ok : Passed g b) {a : ℕ} (is : a ≡ sizeOf g) where
+module _ {g : Net ℤ} {b : Buffers} (ok : Passed g b) {a : ℕ} (is : a ≡ mostArcsOf g) where
   abbrev m : ℕ
   m = g .bound
 
-  pub room-first : Room m a (b .scratch)
+  pub room-first : EnoughScratch m a (b .scratch)
   room-first = rw is (ok .room)
 
   -- an unknown source: the distances blank and the scratch cleared
   pub answer-unknown : {s : ℕ} {b₁ : Buffers} → has g s ≡ false → b₁ .dist ≡ filled m noneI64 (b .dist) → b₁ .scratch ≡ wipedAll m a (b .scratch) → Promise g s b b₁ 0
   answer-unknown f bl w =
       let e : _ ≡ clear g b = w ∙ ap (λ (n : ℕ). wipedAll m n (b .scratch)) is in
-      unknown refl (ok .long) (ok .inside) f (λ i. record { dist = bl i; scratch = e i })
+      record { follows = past (ok .long) (past (ok .inside) (here f (refl, λ i. record { dist = bl i; scratch = e i }))) }
 
   -- the distances blank and the scratch prepared, before the search
   module _ {b₁ : Buffers} (bl : b₁ .dist ≡ filled m noneI64 (b .dist)) (w : b₁ .scratch ≡ prepared m (b .scratch)) where
-    kept-first : KeptScratch m (sizeOf g) (b .scratch) (b₁ .scratch)
+    kept-first : KeptScratch m (mostArcsOf g) (b .scratch) (b₁ .scratch)
     kept-first =
-        subst (KeptScratch m (sizeOf g) (b .scratch)) (sym w)
+        subst (KeptScratch m (mostArcsOf g) (b .scratch)) (sym w)
         (record {
           rows = record { offsets = kept-none; heads = kept-none; weights = kept-none };
           queue = kept-none;
@@ -114,13 +116,13 @@ module _ {g : Net ℤ} {b : Buffers} (ok : Passed g b) {a : ℕ} (is : a ≡ siz
 
     -- the map solved
     module _ {s : ℕ} {t : Bool} {b₂ : Buffers} (k : has g s ≡ true) (v : Solved g s b₁ b₂ t) where
-      kept-second : KeptScratch m (sizeOf g) (b₁ .scratch) (b₂ .scratch)
+      kept-second : KeptScratch m (mostArcsOf g) (b₁ .scratch) (b₂ .scratch)
       kept-second = record { rows = v .rows; queue = v .rest .queue; queued = v .rest .queued; lengths = v .rest .lengths }
 
       dist-second : Kept m (b .dist) (b₂ .dist)
       dist-second = kept-more kept-dist (v .rest .dist)
 
-      pub room-second : Room m a (b₂ .scratch)
+      pub room-second : EnoughScratch m a (b₂ .scratch)
       room-second = rw is (room-kept (room-kept (ok .room) kept-first) kept-second)
 
       pub dist-room : m ≤ length (b₂ .dist)
@@ -134,7 +136,9 @@ module _ {g : Net ℤ} {b : Buffers} (ok : Passed g b) {a : ℕ} (is : a ≡ siz
         pub answer-negative : {d₃ : List ℤ} → t ≡ true → d₃ ≡ filled m noneI64 (b₂ .dist) → Promise g s b (record { dist = d₃; scratch = r₃ }) 7
         answer-negative {d₃} y e =
             let f : d₃ ≡ filled m noneI64 (b .dist) = kept-twice noneI64 (b .dist) bl (v .rest .dist) e in
-            negative refl (ok .long) (ok .inside) k (v .yes y) (λ i. record { dist = f i; scratch = clear-again i })
+            record { follows = past (ok .long) (past (ok .inside) (past k (here (v .yes y) (refl, λ i. record { dist = f i; scratch = clear-again i })))) }
 
         pub answer-done : t ≡ false → Promise g s b (record { dist = b₂ .dist; scratch = r₃ }) 0
-        answer-done y = done refl (ok .long) (ok .inside) k (v .no y .0) (settle (pos 0) (ok .dist) (dist-second .long) (v .no y .1) (dist-second .rest)) clear-again
+        answer-done y =
+            let x = settle (pos 0) (ok .dist) (dist-second .long) (v .no y .1) (dist-second .rest) in
+            record { follows = past (ok .long) (past (ok .inside) (past k (past (λ w. not-both w (v .no y .0)) (here tt (refl, (x, clear-again)))))) }

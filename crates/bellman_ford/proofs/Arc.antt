@@ -31,7 +31,8 @@ use Rattle.bellman_ford.proofs.Ring.{slot-below, full-waits, push-done}
 use Rattle.bellman_ford.proofs.Labels.{worse-is, within, label-new, label-other, label-back, label-is, label-kinds, label-falls, better-label, lighter}
 
 -- what a push does to the marks and to the ring's slices
-pub push-marks : {m h n v n′ : ℕ} {q qd q′ qd′ : List ℕ} → Ring m h n q qd → v < m → v < length qd → Pushed m h n v q qd q′ qd′ n′ → (getD qd′ v 0 ≡ 0 → ⊥) × ((x : ℕ) → (x ≡ v → ⊥) → getD qd′ x 0 ≡ getD qd x 0) × (n′ ≤ n + 1)
+pub push-marks : {m h n v n′ : ℕ} {q qd q′ qd′ : List ℕ} → Ring m h n q qd → v < m → v < length qd → Pushed m h n v q qd q′ qd′ n′
+    → (getD qd′ v 0 ≡ 0 → ⊥) × ((x : ℕ) → (x ≡ v → ⊥) → getD qd′ x 0 ≡ getD qd x 0) × (n′ ≤ n + 1)
 push-marks {v} {qd} r l k (full f e a b) = (rw b (full-waits r v l f), λ x g. rw b, omega arith)
 push-marks {v} {qd} r l k (waiting s f e a b) = (rw (b, getD-set-same qd v 1 0 k) (λ y. omega arith), λ x g. rw b (getD-set-other qd v x 1 0 g), omega arith)
 push-marks {v} {qd} r l k (pushed z e a b) = (rw (b, getD-set-same qd v 1 0 k) (λ y. omega arith), λ x g. rw b (getD-set-other qd v x 1 0 g), omega arith)
@@ -185,7 +186,8 @@ module _ {m p s : ℕ} {nb : Lists ℤ} (fit : Fit m p s nb) {u k i h n : ℕ} {
       pub stored-lighter : toDo (memoryOf l′ q′ qd′ ks′) n′ ≤ toDo M n
       stored-lighter = omega (arith, marks .2, lighter (M .dist) v (d ⊕ c) (omega (arith, below, room)) sum-some sum-small b (old-kind (o .held .good .kinds v below)))
         where
-          old-kind : (getD (M .dist) v (pos 0) ≡ noneI64) ⊎ (noneI64 <ℤ getD (M .dist) v (pos 0)) → (getD (M .dist) v (pos 0) ≡ noneI64) ⊎ ((noneI64 <ℤ getD (M .dist) v (pos 0)) × Within (2 ^ 41) (getD (M .dist) v (pos 0)))
+          old-kind : (getD (M .dist) v (pos 0) ≡ noneI64) ⊎ (noneI64 <ℤ getD (M .dist) v (pos 0))
+              → (getD (M .dist) v (pos 0) ≡ noneI64) ⊎ ((noneI64 <ℤ getD (M .dist) v (pos 0)) × Within (2 ^ 41) (getD (M .dist) v (pos 0)))
           old-kind (inl q) = inl q
           old-kind (inr q) = inr (q, within fit (o .held .good .came v (getD (M .dist) v (pos 0)) (below, refl, q)) (o .held .good .short v (getD (M .dist) v (pos 0)) (below, refl, q)))
 

@@ -3,26 +3,26 @@
 use mathlib.Core.Path.{_≡_, refl, sym, ap, _∙_}
 use mathlib.Core.Bool.{Bool, true, false}
 use Prim.Native.Nat.{ℕ, _≤_, _<_}
-use native.Mathlib.Omega.{arith}
 use borrow.Author.Tests.{leb-true, le-leb, lt-leb}
 use lib.Dec.{leb}
 use lib.IntN.{ℤ}
 use lib.ListN.{length}
 use Rattle.whole.proofs.Cases.{and-left, and-right}
-use Rattle.table.proofs.Laws as table
-use Rattle.net.specs.Net.{Net, wholeNet, insideNet, sizeOf}
-use Rattle.rows.specs.Scratch.{hasRoom}
-use Rattle.rows.proofs.Kept.{has-needs}
-use Rattle.bellman_ford.specs.Promise.{Buffers, longEnough, enough, Promise, short, outside}
-use Rattle.bellman_ford.specs.Parts.{refusalNo, Room}
+use Rattle.numbers.proofs.Numbers as numbers
+use Rattle.table.proofs.Laws as lent
+use Rattle.net.specs.Net.{Net, wholeNet, insideNet, mostArcsOf}
+use Rattle.rows.specs.Scratch.{hasLists}
+use Rattle.rows.proofs.Kept.{has-lists}
+use Rattle.bellman_ford.specs.Promise.{Buffers, longEnough, enough, table, Promise}
+use Rattle.bellman_ford.specs.Parts.{refusalNo, EnoughScratch}
 
 -- ---- the tests of the lengths, one after another
 module _ (m a : ℕ) (b : Buffers) where
-  pub long-rows : hasRoom m a (b .scratch .rows) ≡ false → false ≡ longEnough m a b
+  pub long-rows : hasLists m a (b .scratch .rows) ≡ false → false ≡ longEnough m a b
   unfolding longEnough
   long-rows e = rw e
 
-  module _ (e : hasRoom m a (b .scratch .rows) ≡ true) where
+  module _ (e : hasLists m a (b .scratch .rows) ≡ true) where
     pub long-dist : length (b .dist) < m → false ≡ longEnough m a b
     unfolding longEnough
     long-dist h = rw (e, lt-leb m (length (b .dist)) h)
@@ -48,8 +48,8 @@ module _ (g : Net ℤ) (b : Buffers) where
   refused-limits e = rw e
 
   -- r is what the test of the lengths gave
-  module _ (e : wholeNet g ≡ true) {a : ℕ} {r : Bool} (t : r ≡ longEnough (g .bound) a b) (is : a ≡ sizeOf g) where
-    tested : {x : Bool} → r ≡ x → longEnough (g .bound) (sizeOf g) b ≡ x
+  module _ (e : wholeNet g ≡ true) {a : ℕ} {r : Bool} (t : r ≡ longEnough (g .bound) a b) (is : a ≡ mostArcsOf g) where
+    tested : {x : Bool} → r ≡ x → longEnough (g .bound) (mostArcsOf g) b ≡ x
     tested f = sym (t ∙ ap (λ (n : ℕ). longEnough (g .bound) n b) is) ∙ f
 
     pub refused-short : r ≡ false → 1 ≡ refusalNo g b
@@ -67,12 +67,7 @@ module _ (g : Net ℤ) (b : Buffers) where
   -- a refusal is what the promise says
   pub refused : (s r : ℕ) → r ≡ refusalNo g b → (r ≡ 0 → ⊥) → Promise g s b b r
   unfolding refusalNo
-  refused s r q f = go (enough g b) (insideNet g) refl refl
-    where
-      go : (x y : Bool) → enough g b ≡ x → insideNet g ≡ y → Promise g s b b r
-      go false y e i = short (q ∙ rw e) e refl
-      go true false e i = outside (q ∙ rw (e, i)) e i refl
-      go true true e i = absurd (f (q ∙ rw (e, i)))
+  refused s r q f = record { follows = numbers.refused 2 (table g s b) b (refl, (refl, tt)) r q f }
 
 -- ---- what a call that is not refused may rest on
 pub record Passed (g : Net ℤ) (b : Buffers) : Type 0 where
@@ -81,24 +76,24 @@ pub record Passed (g : Net ℤ) (b : Buffers) : Type 0 where
   pub whole : wholeNet g ≡ true
   pub marked : g .bound ≤ length (g .marks)
   pub dist : g .bound ≤ length (b .dist)
-  pub room : Room (g .bound) (sizeOf g) (b .scratch)
+  pub room : EnoughScratch (g .bound) (mostArcsOf g) (b .scratch)
 
 pub enough-passed : (g : Net ℤ) (b : Buffers) → enough g b ≡ true → insideNet g ≡ true → Passed g b
 unfolding longEnough
 enough-passed g b e i =
     let l = and-right (wholeNet g) _ e in
-    let e1 = and-right (hasRoom (g .bound) (sizeOf g) (b .scratch .rows)) _ l in
+    let e1 = and-right (hasLists (g .bound) (mostArcsOf g) (b .scratch .rows)) _ l in
     let e2 = and-right (leb (g .bound) (length (b .dist))) _ e1 in
     let e3 = and-right (leb (g .bound) (length (b .scratch .queue))) _ e2 in
     record {
       long = e;
       inside = i;
       whole = and-left (wholeNet g) _ e;
-      marked = table.whole (g .bound) (g .count) (g .room) (g .marks) (and-left (wholeNet g) _ e) .marked;
+      marked = lent.whole (g .bound) (g .count) (g .room) (g .marks) (and-left (wholeNet g) _ e) .marked;
       dist = leb-true _ _ (and-left (leb (g .bound) (length (b .dist))) _ e1);
       room =
           record {
-            rows = has-needs _ _ _ (and-left (hasRoom (g .bound) (sizeOf g) (b .scratch .rows)) _ l);
+            rows = has-lists _ _ _ (and-left (hasLists (g .bound) (mostArcsOf g) (b .scratch .rows)) _ l);
             queue = leb-true _ _ (and-left (leb (g .bound) (length (b .scratch .queue))) _ e2);
             queued = leb-true _ _ (and-left (leb (g .bound) (length (b .scratch .queued))) _ e3);
             lengths = leb-true _ _ (and-right (leb (g .bound) (length (b .scratch .queued))) _ e3);
@@ -107,9 +102,4 @@ enough-passed g b e i =
 
 pub passed : (g : Net ℤ) (b : Buffers) → refusalNo g b ≡ 0 → Passed g b
 unfolding refusalNo
-passed g b q = go (enough g b) (insideNet g) refl refl
-  where
-    go : (x y : Bool) → enough g b ≡ x → insideNet g ≡ y → Passed g b
-    go false y e i = absurd (let h : refusalNo g b ≡ 1 = rw e in omega (arith, q, h))
-    go true false e i = absurd (let h : refusalNo g b ≡ 2 = rw (e, i) in omega (arith, q, h))
-    go true true e i = enough-passed g b e i
+passed g b q = let p = numbers.passed 2 (table g 0 b) (refl, (refl, tt)) q in enough-passed g b (p .0) (p .1 .0)

@@ -40,8 +40,11 @@ slot-first m h p = ⊎-elim (λ w. omega arith) (λ w. omega arith) (slot-cases 
 
 slot-next : (m h i : ℕ) → h < m → i + 1 ≤ m → slotOf m (slotOf m h 1) i ≡ slotOf m h (i + 1)
 slot-next m h i p q =
-    ⊎-elim (λ a. ⊎-elim (λ b. ⊎-elim (λ d. omega arith) (λ d. omega arith) (slot-cases m h (i + 1))) (λ b. ⊎-elim (λ d. omega arith) (λ d. omega arith) (slot-cases m h (i + 1))) (slot-cases m (slotOf m h 1) i))
-    (λ a. ⊎-elim (λ b. ⊎-elim (λ d. omega arith) (λ d. omega arith) (slot-cases m h (i + 1))) (λ b. ⊎-elim (λ d. omega arith) (λ d. omega arith) (slot-cases m h (i + 1))) (slot-cases m (slotOf m h 1) i)) (slot-cases m h 1)
+    ⊎-elim (λ a.
+    ⊎-elim (λ b. ⊎-elim (λ d. omega arith) (λ d. omega arith) (slot-cases m h (i + 1))) (λ b. ⊎-elim (λ d. omega arith) (λ d. omega arith) (slot-cases m h (i + 1))) (slot-cases m (slotOf m h 1) i))
+    (λ a.
+    ⊎-elim (λ b. ⊎-elim (λ d. omega arith) (λ d. omega arith) (slot-cases m h (i + 1))) (λ b. ⊎-elim (λ d. omega arith) (λ d. omega arith) (slot-cases m h (i + 1))) (slot-cases m (slotOf m h 1) i))
+    (slot-cases m h 1)
 
 -- ---- the values of f below n, all apart and below m, with one more number below m: n is below m
 abbrev tab : (ℕ → ℕ) → ℕ → List ℕ
@@ -101,7 +104,9 @@ module _ {m h n : ℕ} {q qd : List ℕ} (r : Ring m h n q qd) where
       roomD = omega (arith, r .roomD, length-set qd v 1);
       inside = λ i k. at-cases i k (λ a. rw (old-at i a) (r .inside i a)) (λ e. rw (e, new-at) below);
       marked = λ i k. at-cases i k (λ a. rw (old-at i a) (getD-set-other qd v (waits m h q i) 1 0 (differs i a) ∙ r .marked i a)) (λ e. rw (e, new-at) marks-new);
-      apart = λ i j a b e. at-cases j b (λ c. r .apart i j a c (sym (old-at i (omega arith)) ∙ (e ∙ old-at j c))) (λ f. differs i (omega arith) (sym (old-at i (omega arith)) ∙ (e ∙ (ap (waits m h (set q (slotOf m h n) v)) f ∙ new-at))));
+      apart = λ i j a b e.
+          at-cases j b (λ c. r .apart i j a c (sym (old-at i (omega arith)) ∙ (e ∙ old-at j c)))
+          (λ f. differs i (omega arith) (sym (old-at i (omega arith)) ∙ (e ∙ (ap (waits m h (set q (slotOf m h n) v)) f ∙ new-at))));
       found = λ x a b. seek x a b (ℕ-discrete x v);
     }
       where

@@ -63,7 +63,11 @@ module _ {m p s : ℕ} {nb : Lists ℤ} (fit : Fit m p s nb) {u k i h n₀ n : �
     row-next (long b e f a) z = absurd (clash f z)
     row-next (stored b e f x y w) z =
         subst (λ (X : Memory). Row m p s nb u d k (i + 1) h n₀ n′ M₀ X) (λ j. memoryOf (sym x j) (M′ .queue) (M′ .queued) (sym y j))
-        (record { state = stored-open fit (r .state) here b e w; lighter = omega (arith, r .lighter, stored-lighter fit (r .state) here b e w); rest = memory-more (r .rest) (stored-kept fit (r .state) here b e w) })
+        (record {
+          state = stored-open fit (r .state) here b e w;
+          lighter = omega (arith, r .lighter, stored-lighter fit (r .state) here b e w);
+          rest = memory-more (r .rest) (stored-kept fit (r .state) here b e w);
+        })
 
     -- a path too long
     row-long : ArcRelaxed m p d k (getD (nb .heads) i 0) (getD (nb .weights) i (pos 0)) h n M M′ t n′ → t ≡ true → NegativeFrom (RowArc m nb) s × KeptMemory m M₀ M′

@@ -1,112 +1,94 @@
 -- The promise of `bellman_ford` settles the answer and each buffer, goes by the arcs alone, and gives each number exactly when its condition holds.
--- A case of the promise says which tests passed before it, so two answers are in one case, or one is 7 and the other 0: but a closed walk below zero is in reach or
--- none is. In one case the buffers are equal, since least totals are. Each number's equivalence is read off the cases. Maps with the same arcs pass the same tests
--- and have the same walks. An undirected link below zero is a closed walk below zero, there and back. A least total has fewer than 1,024 arcs, so it is never none.
+-- What holds of every table of numbers (crate numbers) gives this, row by row: after 0 the buffers are equal, since least totals are. Maps with the same arcs pass
+-- the same tests and have the same walks. An undirected link below zero is a closed walk below zero, there and back.
 -- Assumes nothing.
 use mathlib.Core.Path.{_≡_, refl, sym, ap, _∙_}
-use mathlib.Core.Bool.{true, false}
-use mathlib.Core.Logic.{_⊎_, inl, inr, _↔_}
+use mathlib.Core.Bool.{Bool, true, false}
+use mathlib.Core.Logic.{_↔_}
 use Prim.Native.Nat.{ℕ}
 use native.Mathlib.Omega.{arith}
 use lib.IntN.{ℤ, pos}
-use lib.Signed.{_<ℤ_}
-use Rattle.whole.specs.Zed.{_⊕_, zed, sum}
-use Rattle.whole.proofs.Cases.{clash, other}
+use lib.Signed.{ltZ, _≤ℤ_, _<ℤ_}
+use Rattle.whole.specs.Zed.{_⊕_, zed, sum, lt-yes, lt-no}
+use Rattle.numbers.specs.Numbers.{here, past, Follows, At, Given, Over}
+use Rattle.numbers.proofs.Numbers.{_then_, is-one, follows-one, exactly, given, follows-over, itself}
 use Rattle.clean.specs.Fill.{Settled}
 use Rattle.clean.specs.None.{noneI64}
 use Rattle.clean.proofs.Filled.{settled-one}
 use Rattle.walks.specs.Walk.{Walk, NoNeg, NegativeFrom, Entry}
-use Rattle.walks.proofs.Walk.{arc, join, not-both}
-use Rattle.walks.proofs.Over.{entry-one, noneg-over, negative-from-over}
-use Rattle.net.specs.Net.{Net, ArcOf, insideNet, has, sizeOf, SameNet}
+use Rattle.walks.proofs.Walk.{arc, join}
+use Rattle.walks.proofs.Over.{entry-one, negative-from-over}
+use Rattle.net.specs.Net.{Net, ArcOf, insideNet, has, mostArcsOf, SameNet}
 use Rattle.net.proofs.Same.{arc-turned, same-inside, same-size}
 use Rattle.net.proofs.Totals.{arc-over, arc-back, entries-over}
-use Rattle.net.proofs.Tests.{Test, fails, holds, test-one, both-one}
 use Rattle.rows.specs.Kept.{Kept}
-use Rattle.rows.proofs.Kept.{kept-none, kept-filled}
-use Rattle.bellman_ford.specs.Promise.{Buffers, enough, clear, blank, Promise, short, outside, unknown, negative, done}
+use Rattle.rows.proofs.Kept.{kept-none, kept-filled, kept-settled}
+use Rattle.bellman_ford.specs.Promise.{Buffers, enough, clear, blank, table, Promise}
 use Rattle.bellman_ford.proofs.Refusals.{enough-passed}
 use Rattle.bellman_ford.proofs.Answers.{KeptScratch, scratch-same, scratch-wiped}
 
--- ---- two answers that the promise allows are equal
-module _ (g : Net ℤ) (s : ℕ) (b : Buffers) where
-  -- after the tests: a stop, or done
-  abbrev pub After : Buffers → ℕ → Type 0
-  After e n = ((n ≡ 7) × (e ≡ blank g b) × NegativeFrom (ArcOf g) s) ⊎ ((n ≡ 0) × NoNeg (ArcOf g) s × Settled (g .bound) (Entry (ArcOf g) s) (b .dist) (e .dist) × (e .scratch ≡ clear g b))
-
-  after-one : {e e′ : Buffers} {no no′ : ℕ} → After e no → After e′ no′ → (no ≡ no′) × (e ≡ e′)
-  after-one (inl x) (inl y) = (x .0 ∙ sym (y .0), x .1 ∙ sym (y .1))
-  after-one (inl x) (inr y) = absurd (not-both (x .2) (y .1))
-  after-one (inr x) (inl y) = absurd (not-both (y .2) (x .1))
-  after-one (inr x) (inr y) = (x .0 ∙ sym (y .0), λ j. record { dist = settled-one (pos 0) (λ v k x y. entry-one) (x .2) (y .2) j; scratch = (x .3 ∙ sym (y .3)) j })
-
-  -- the answer by the first test that fails
-  pub tests : {e : Buffers} {no : ℕ} → Promise g s b e no → Test (enough g b) ((no ≡ 1) × (e ≡ b)) (Test (insideNet g) ((no ≡ 2) × (e ≡ b)) (Test (has g s) ((no ≡ 0) × (e ≡ blank g b)) (After e no)))
-  tests (short n p q) = fails p (n, q)
-  tests (outside n p i q) = holds p (fails i (n, q))
-  tests (unknown n p i h q) = holds p (holds i (fails h (n, q)))
-  tests (negative n p i h w q) = holds p (holds i (holds h (inl (n, q, w))))
-  tests (done n p i h w d q) = holds p (holds i (holds h (inr (n, w, d, q))))
-
 module _ {g : Net ℤ} {s : ℕ} {b : Buffers} where
-  -- the number and every buffer
-  pub promise-one : {e e′ : Buffers} {no no′ : ℕ} → Promise g s b e no → Promise g s b e′ no′ → (no ≡ no′) × (e ≡ e′)
-  promise-one p q = test-one both-one (test-one both-one (test-one both-one (after-one g s b))) (tests g s b p) (tests g s b q)
+  -- ---- two answers that the promise allows are equal: after 0 the distances are settled index by index, else the row names the buffers
+  pub promise-one : {e e′ : Buffers} {number number′ : ℕ} → Promise g s b e number → Promise g s b e′ number′ → (number ≡ number′) × (e ≡ e′)
+  promise-one {e} {e′} {number} {number′} p q = follows-one (table g s b) e e′ number number′ (is-one then is-one then is-one then is-one then all then tt) (p .follows) (q .follows)
+    where
+      all : (x y : Buffers) → Settled (g .bound) (Entry (ArcOf g) s) (b .dist) (x .dist) × (x .scratch ≡ clear g b)
+          → Settled (g .bound) (Entry (ArcOf g) s) (b .dist) (y .dist) × (y .scratch ≡ clear g b) → x ≡ y
+      all x y p q = λ j. record { dist = settled-one (pos 0) (λ v k c d. entry-one) (p .0) (q .0) j; scratch = (p .1 ∙ sym (q .1)) j }
 
-  -- ---- only the part used of each buffer changes
-  pub promise-kept : {e : Buffers} {no : ℕ} → Promise g s b e no → Kept (g .bound) (b .dist) (e .dist) × KeptScratch (g .bound) (sizeOf g) (b .scratch) (e .scratch)
-  promise-kept (short n p q) = rw q (kept-none, scratch-same)
-  promise-kept (outside n p i q) = rw q (kept-none, scratch-same)
-  promise-kept (unknown n p i h q) = let k = enough-passed g b p i in (kept-filled noneI64 (k .dist) (ap (λ (x : Buffers). x .dist) q), scratch-wiped (k .room) (ap (λ (x : Buffers). x .scratch) q))
-  promise-kept (negative n p i h w q) = let k = enough-passed g b p i in (kept-filled noneI64 (k .dist) (ap (λ (x : Buffers). x .dist) q), scratch-wiped (k .room) (ap (λ (x : Buffers). x .scratch) q))
-  promise-kept (done n p i h w d q) = (record { long = d .long; rest = d .rest }, scratch-wiped (enough-passed g b p i .room) q)
+  module _ {e : Buffers} {number : ℕ} (p : Promise g s b e number) where
+    -- ---- each number exactly when its row is reached, and what is then left
+    pub promise-exactly : (k : ℕ) → (number ≡ k) ↔ At k (table g s b)
+    promise-exactly = exactly (table g s b) e number (p .follows)
 
-  -- ---- each number, exactly when its condition holds
-  module _ {e : Buffers} {no : ℕ} where
-    pub one-exactly : Promise g s b e no → (no ≡ 1) ↔ (enough g b ≡ false)
-    one-exactly (short n p q) = (λ z. p, λ z. n)
-    one-exactly (outside n p i q) = (λ z. other 2 1 n z (λ y. omega arith), λ z. absurd (clash p z))
-    one-exactly (unknown n p i h q) = (λ z. other 0 1 n z (λ y. omega arith), λ z. absurd (clash p z))
-    one-exactly (negative n p i h w q) = (λ z. other 7 1 n z (λ y. omega arith), λ z. absurd (clash p z))
-    one-exactly (done n p i h w d q) = (λ z. other 0 1 n z (λ y. omega arith), λ z. absurd (clash p z))
+    pub promise-given : (k : ℕ) → number ≡ k → Given k (table g s b) e
+    promise-given = given (table g s b) e number (p .follows)
 
-    pub two-exactly : Promise g s b e no → (no ≡ 2) ↔ ((enough g b ≡ true) × (insideNet g ≡ false))
-    two-exactly (short n p q) = (λ z. other 1 2 n z (λ y. omega arith), λ z. absurd (clash (z .0) p))
-    two-exactly (outside n p i q) = (λ z. (p, i), λ z. n)
-    two-exactly (unknown n p i h q) = (λ z. other 0 2 n z (λ y. omega arith), λ z. absurd (clash i (z .1)))
-    two-exactly (negative n p i h w q) = (λ z. other 7 2 n z (λ y. omega arith), λ z. absurd (clash i (z .1)))
-    two-exactly (done n p i h w d q) = (λ z. other 0 2 n z (λ y. omega arith), λ z. absurd (clash i (z .1)))
+    -- ---- only the part used of each buffer changes
+    pub promise-kept : Kept (g .bound) (b .dist) (e .dist) × KeptScratch (g .bound) (mostArcsOf g) (b .scratch) (e .scratch)
+    promise-kept = go (p .follows)
+      where
+        blanked : enough g b ≡ true → insideNet g ≡ true → e ≡ blank g b → Kept (g .bound) (b .dist) (e .dist) × KeptScratch (g .bound) (mostArcsOf g) (b .scratch) (e .scratch)
+        blanked l i q =
+            let k = enough-passed g b l i in
+            (kept-filled noneI64 (k .dist) (ap (λ (y : Buffers). y .dist) q), scratch-wiped (k .room) (ap (λ (y : Buffers). y .scratch) q))
 
-    pub seven-exactly : Promise g s b e no → (no ≡ 7) ↔ ((enough g b ≡ true) × (insideNet g ≡ true) × (has g s ≡ true) × NegativeFrom (ArcOf g) s)
-    seven-exactly (short n p q) = (λ z. other 1 7 n z (λ y. omega arith), λ z. absurd (clash (z .0) p))
-    seven-exactly (outside n p i q) = (λ z. other 2 7 n z (λ y. omega arith), λ z. absurd (clash (z .1) i))
-    seven-exactly (unknown n p i h q) = (λ z. other 0 7 n z (λ y. omega arith), λ z. absurd (clash (z .2) h))
-    seven-exactly (negative n p i h w q) = (λ z. (p, i, h, w), λ z. n)
-    seven-exactly (done n p i h w d q) = (λ z. other 0 7 n z (λ y. omega arith), λ z. absurd (not-both (z .3) w))
+        go : Follows (table g s b) e number → Kept (g .bound) (b .dist) (e .dist) × KeptScratch (g .bound) (mostArcsOf g) (b .scratch) (e .scratch)
+        go (here l x) = rw (x .1) (kept-none, scratch-same)
+        go (past l (here i x)) = rw (x .1) (kept-none, scratch-same)
+        go (past l (past i (here h x))) = blanked l i (x .1)
+        go (past l (past i (past h (here w x)))) = blanked l i (x .1)
+        go (past l (past i (past h (past w (here t x))))) = (kept-settled (x .1 .0), scratch-wiped (enough-passed g b l i .room) (x .1 .1))
+        go (past l (past i (past h (past w (past t x))))) = absurd x
 
 -- ---- the promise goes by the arcs: maps that no question can tell apart get the same answers
 module _ {g g′ : Net ℤ} (same : SameNet g g′) where
-  same-enough : (b : Buffers) → enough g b ≡ enough g′ b
-  same-enough b = rw (same .whole, same-size same, same .bound)
+  -- row by row
+  same-table : (s : ℕ) (b : Buffers) → Over (table g s b) (table g′ s b)
+  same-table s b =
+      (refl, rw (same .whole, same-size same, same .bound), λ e q. q)
+      then (refl, same-inside same, λ e q. q)
+      then (refl, same .has s, λ e q. q ∙ rw (same-size same, same .bound))
+      then (refl, (negative-from-over (arc-over same), negative-from-over (arc-back same)), λ e q. q ∙ rw (same-size same, same .bound))
+      then (refl, itself, λ e q. (entries-over same (q .0), q .1 ∙ rw (same-size same, same .bound)))
+      then tt
 
-  same-clear : (b : Buffers) → clear g b ≡ clear g′ b
-  same-clear b = rw (same-size same, same .bound)
+  pub promise-arcs : {s : ℕ} {b e : Buffers} {number : ℕ} → Promise g s b e number → Promise g′ s b e number
+  promise-arcs {s} {b} {e} {number} p = record { follows = follows-over (table g s b) (table g′ s b) e number (same-table s b) (p .follows) }
 
-  same-blank : (b : Buffers) → blank g b ≡ blank g′ b
-  same-blank b = rw (same-size same, same .bound)
-
-  pub promise-arcs : {s : ℕ} {b e : Buffers} {no : ℕ} → Promise g s b e no → Promise g′ s b e no
-  promise-arcs {s} {b} (short n p q) = short n (sym (same-enough b) ∙ p) q
-  promise-arcs {s} {b} (outside n p i q) = outside n (sym (same-enough b) ∙ p) (sym (same-inside same) ∙ i) q
-  promise-arcs {s} {b} (unknown n p i h q) = unknown n (sym (same-enough b) ∙ p) (sym (same-inside same) ∙ i) (sym (same .has s) ∙ h) (q ∙ same-blank b)
-  promise-arcs {s} {b} (negative n p i h w q) = negative n (sym (same-enough b) ∙ p) (sym (same-inside same) ∙ i) (sym (same .has s) ∙ h) (negative-from-over (arc-over same) w) (q ∙ same-blank b)
-  promise-arcs {s} {b} (done n p i h w d q) =
-      done n (sym (same-enough b) ∙ p) (sym (same-inside same) ∙ i) (sym (same .has s) ∙ h) (noneg-over (arc-over same) (arc-back same) w) (entries-over same d) (q ∙ same-clear b)
+-- ---- where no closed walk is below zero, each is not
+pub no-negative : {Arc : ℕ → ℕ → ℤ → Type 0} {s : ℕ} → (NegativeFrom Arc s → ⊥) → NoNeg Arc s
+no-negative f x a t r w = go (ltZ t (pos 0)) refl
+  where
+    go : (b : Bool) → ltZ t (pos 0) ≡ b → pos 0 ≤ℤ t
+    go true e = absurd (f (record { x = x; a = a; t = t; reach = r; loop = w; below = omega (arith, zed, lt-yes t (pos 0) e) }))
+    go false e = omega (arith, zed, lt-no t (pos 0) e)
 
 -- ---- undirected: a link below zero in reach is a closed walk below zero, there and back
 pub undirected-negative : (g : Net ℤ) (s u v : ℕ) (t c : ℤ) → g .directed ≡ false → Walk (ArcOf g) s u t → ArcOf g u v c → c <ℤ pos 0 → NegativeFrom (ArcOf g) s
 undirected-negative g s u v t c e w a h = record { x = u; a = t; t = c ⊕ c; reach = w; loop = join (arc a) (arc (arc-turned g e u v c a)) refl; below = omega (arith, zed, sum c c) }
 
 -- so the answer is 7
-pub undirected-seven : {g : Net ℤ} {s u no : ℕ} {t : ℤ} {b e : Buffers} (v : ℕ) (c : ℤ) → Promise g s b e no → enough g b ≡ true → insideNet g ≡ true → has g s ≡ true → g .directed ≡ false → Walk (ArcOf g) s u t → ArcOf g u v c → c <ℤ pos 0 → no ≡ 7
-undirected-seven {g} {s} {u} {no} {t} v c p e i h f w a l = seven-exactly p .1 (e, i, h, undirected-negative g s u v t c f w a l)
+pub undirected-seven : {g : Net ℤ} {s u number : ℕ} {t : ℤ} {b e : Buffers} (v : ℕ) (c : ℤ) → Promise g s b e number → enough g b ≡ true → insideNet g ≡ true → has g s ≡ true → g .directed ≡ false
+    → Walk (ArcOf g) s u t → ArcOf g u v c → c <ℤ pos 0 → number ≡ 7
+undirected-seven {g} {s} {u} {number} {t} v c p e i h f w a l = promise-exactly p 7 .1 (e, (i, (h, undirected-negative g s u v t c f w a l)))

@@ -14,7 +14,7 @@ use Rattle.net.proofs.Same.{arc-has}
 use Rattle.net.proofs.Totals.{total-within}
 use Rattle.walks.specs.Costs.{Costs32}
 use Rattle.walks.proofs.Over.{entry-of, total-over, noneg-over, negative-from-over}
-use Rattle.rows.specs.Rows.{Lists, Room, Rows}
+use Rattle.rows.specs.Rows.{Lists, EnoughFor, Rows}
 use Rattle.rows.specs.RowArc.{RowArc}
 use Rattle.rows.proofs.Maps.{arcs-are, net-sound, net-kept, net-room}
 use Rattle.bellman_ford.specs.Promise.{Buffers}
@@ -28,7 +28,7 @@ module _ {g : Net ℤ} {s : ℕ} {b : Buffers} (ripe : Ripe g s b) where
   pub marked : g .bound ≤ length (g .marks)
   marked = limits .marked
 
-  pub list-room : Room (arcs (g .directed) (linksOf g)) (g .bound) (b .scratch .rows)
+  pub list-room : EnoughFor (arcs (g .directed) (linksOf g)) (g .bound) (b .scratch .rows)
   list-room = net-room g (ripe .rows)
 
   module _ {nb : Lists ℤ} (r : Rows (arcs (g .directed) (linksOf g)) (g .bound) (b .scratch .rows) nb) where
@@ -51,7 +51,8 @@ module _ {g : Net ℤ} {s : ℕ} {b : Buffers} (ripe : Ripe g s b) where
     }
 
     -- the totals are the map's, and each lies in its range
-    pub solved-of : {M′ : Memory} {t : Bool} → Costs32 (ArcOf g) → Searched (g .bound) s nb (memory b) M′ t → Solved g s b (record { dist = M′ .dist; scratch = record { rows = nb; queue = M′ .queue; queued = M′ .queued; lengths = M′ .lengths } }) t
+    pub solved-of : {M′ : Memory} {t : Bool} → Costs32 (ArcOf g) → Searched (g .bound) s nb (memory b) M′ t
+        → Solved g s b (record { dist = M′ .dist; scratch = record { rows = nb; queue = M′ .queue; queued = M′ .queued; lengths = M′ .lengths } }) t
     solved-of small w = record {
       yes = λ e. negative-from-over over (w .yes e);
       no = λ e.

@@ -125,7 +125,9 @@ module _ {m p s : ℕ} {nb : Lists ℤ} {M : Memory} (fit : Fit m p s nb) (f : F
     where
       go : Dec (x ≡ s) → (x ≡ s) × (d ≡ pos 0)
       go (yes q) = (q, label-is (M .dist) (fit .below) (f .wide .dist) zero-some d (subst (λ (y : ℕ). Label m l₁ y d) q a))
-      go (no g) = absurd (let b = label-back (M .dist) (fit .below) (f .wide .dist) zero-some x d g a in let e : noneI64 ≡ d = sym (f .dist x (b .0)) ∙ b .1 in let k : noneI64 <ℤ d = b .2 in omega (arith, zed))
+      go (no g) =
+          absurd
+          (let b = label-back (M .dist) (fit .below) (f .wide .dist) zero-some x d g a in let e : noneI64 ≡ d = sym (f .dist x (b .0)) ∙ b .1 in let k : noneI64 <ℤ d = b .2 in omega (arith, zed))
 
   some-indices : 0 < p
   some-indices = subst (λ (x : ℕ). 0 < x) (fit .many) (go (fit .indices) (fit .source))

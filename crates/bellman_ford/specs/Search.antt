@@ -80,7 +80,8 @@ pub record Ring (m h n : ℕ) (q qd : List ℕ) : Type 0 where
   pub apart : (i j : ℕ) → i < j → j < n → waits m h q i ≡ waits m h q j → ⊥
   pub found : (v : ℕ) → v < m → (getD qd v 0 ≡ 0 → ⊥) → (i : ℕ) × (i < n) × (waits m h q i ≡ v)
 
--- what holds of the labels and the path lengths at every moment: each label came by a walk of as many arcs as its path length says, fewer than p
+-- what holds of the labels and the path lengths at every moment:
+-- each label came by a walk of as many arcs as its path length says, fewer than p
 pub record Good (m p s : ℕ) (nb : Lists ℤ) (l : List ℤ) (ks : List ℕ) : Type 0 where
   pub roomL : m ≤ length l
   pub roomK : m ≤ length ks
@@ -98,7 +99,8 @@ pub record Held (m p s : ℕ) (nb : Lists ℤ) (h n : ℕ) (M : Memory) : Type 0
 -- between two turns: an index that is not queued has no arc to relax
 pub record Calm (m p s : ℕ) (nb : Lists ℤ) (h n : ℕ) (M : Memory) : Type 0 where
   pub held : Held m p s nb h n M
-  pub relaxed : (u v : ℕ) (d c : ℤ) → getD (M .queued) u 0 ≡ 0 → Label m (M .dist) u d → RowArc m nb u v c → Low (Label m (M .dist)) v (d ⊕ c)
+  pub relaxed : (u v : ℕ) (d c : ℤ) → getD (M .queued) u 0 ≡ 0 → Label m (M .dist) u d → RowArc m nb u v c
+      → Low (Label m (M .dist)) v (d ⊕ c)
 
 -- within a turn: u was taken with the label d and the path length k, and the arcs of its row before place i are relaxed
 pub record Open (m p s : ℕ) (nb : Lists ℤ) (u : ℕ) (d : ℤ) (k i h n : ℕ) (M : Memory) : Type 0 where
@@ -106,10 +108,12 @@ pub record Open (m p s : ℕ) (nb : Lists ℤ) (u : ℕ) (d : ℤ) (k i h n : �
   pub index : u < m
   pub came : Hist (RowArc m nb) s (Label m (M .dist)) u d k
   pub short : k < p
-  pub others : (x v : ℕ) (e c : ℤ) → (x ≡ u → ⊥) → getD (M .queued) x 0 ≡ 0 → Label m (M .dist) x e → RowArc m nb x v c → Low (Label m (M .dist)) v (e ⊕ c)
+  pub others : (x v : ℕ) (e c : ℤ) → (x ≡ u → ⊥) → getD (M .queued) x 0 ≡ 0 → Label m (M .dist) x e → RowArc m nb x v c
+      → Low (Label m (M .dist)) v (e ⊕ c)
   pub mine : getD (M .queued) u 0 ≡ 0 → Label m (M .dist) u d
   pub from : getD (nb .offsets) u 0 ≤ i
-  pub done : (j : ℕ) → getD (nb .offsets) u 0 ≤ j → j < i → Low (Label m (M .dist)) (getD (nb .heads) j 0) (d ⊕ getD (nb .weights) j (pos 0))
+  pub done : (j : ℕ) → getD (nb .offsets) u 0 ≤ j → j < i
+      → Low (Label m (M .dist)) (getD (nb .heads) j 0) (d ⊕ getD (nb .weights) j (pos 0))
 
 -- what one arc asks
 pub record Safe (m : ℕ) (d : ℤ) (k v : ℕ) (c : ℤ) (h n : ℕ) (M : Memory) : Type 0 where
@@ -130,9 +134,12 @@ pub data Pushed (m h n v : ℕ) (q qd q′ qd′ : List ℕ) (r : ℕ) : Type 0 
 
 -- one arc to v of cost c, looked at from an index with the label d and the path length k
 pub data ArcRelaxed (m p : ℕ) (d : ℤ) (k v : ℕ) (c : ℤ) (h n : ℕ) (M M′ : Memory) (negative : Bool) (n′ : ℕ) : Type 0 where
-  kept : betterThan (d ⊕ c) (getD (M .dist) v (pos 0)) ≡ false → negative ≡ false → n′ ≡ n → M′ ≡ M → ArcRelaxed m p d k v c h n M M′ negative n′
-  long : betterThan (d ⊕ c) (getD (M .dist) v (pos 0)) ≡ true → p ≤ k + 1 → negative ≡ true → M′ ≡ M → ArcRelaxed m p d k v c h n M M′ negative n′
-  stored : betterThan (d ⊕ c) (getD (M .dist) v (pos 0)) ≡ true → k + 1 < p → negative ≡ false → M′ .dist ≡ set (M .dist) v (d ⊕ c) → M′ .lengths ≡ set (M .lengths) v (k + 1)
+  kept : betterThan (d ⊕ c) (getD (M .dist) v (pos 0)) ≡ false → negative ≡ false → n′ ≡ n → M′ ≡ M
+      → ArcRelaxed m p d k v c h n M M′ negative n′
+  long : betterThan (d ⊕ c) (getD (M .dist) v (pos 0)) ≡ true → p ≤ k + 1 → negative ≡ true → M′ ≡ M
+      → ArcRelaxed m p d k v c h n M M′ negative n′
+  stored : betterThan (d ⊕ c) (getD (M .dist) v (pos 0)) ≡ true → k + 1 < p → negative ≡ false → M′ .dist ≡ set (M .dist) v (d ⊕ c)
+      → M′ .lengths ≡ set (M .lengths) v (k + 1)
       → Pushed m h n v (M .queue) (M .queued) (M′ .queue) (M′ .queued) n′ → ArcRelaxed m p d k v c h n M M′ negative n′
 
 -- what a label weighs, none the most; each store makes the whole lighter

@@ -10,7 +10,7 @@ ghost use Rattle.clean.specs.Better.{betterThan};
 ghost use Rattle.rows.specs.Rows.{listsOf};
 ghost use Rattle.net.specs.Net.{netOf};
 ghost use Rattle.bellman_ford.specs.Promise.{Promise, buffersOf, scratchOf, longEnough, wipedAll};
-ghost use Rattle.bellman_ford.specs.Parts.{refusalNo, Room, Ripe, Solved};
+ghost use Rattle.bellman_ford.specs.Parts.{refusalNo, EnoughScratch, Ripe, Solved};
 ghost use Rattle.bellman_ford.specs.Search.{slotOf, Pushed, Safe, ArcRelaxed, Fit, Open, RowDone, Fresh, Searched, memoryOf};
 
 // What looking at an arc or at a row leaves: was a path too long, and how many indices wait.
@@ -91,7 +91,9 @@ fn relax_arc(
     lengths: &mut [usize],
 ) -> Turn
     requires { ⌜ Safe m d k v cost head size (memoryOf (now dist) (now queue) (now queued) (now lengths)) ⌝ }
-    ensures { λ r. ⌜ ArcRelaxed m p d k v cost head size (memoryOf (now (dist .entry)) (now (queue .entry)) (now (queued .entry)) (now (lengths .entry))) (memoryOf (now (dist .exit)) (now (queue .exit)) (now (queued .exit)) (now (lengths .exit))) (r .negative) (r .size) ⌝ }
+    ensures { λ r. ⌜ ArcRelaxed m p d k v cost head size
+        (memoryOf (now (dist .entry)) (now (queue .entry)) (now (queued .entry)) (now (lengths .entry)))
+        (memoryOf (now (dist .exit)) (now (queue .exit)) (now (queued .exit)) (now (lengths .exit))) (r .negative) (r .size) ⌝ }
 {
     let n = whole::plus(d, cost);
     if !better(n, dist[v]) {
@@ -115,7 +117,8 @@ fn relax_arc(
     }
 }
 
-// Every arc of the row of u, which was taken from the ring. Its distance and path length are read before the first arc, so that they belong to one walk.
+// Every arc of the row of u, which was taken from the ring.
+// Its distance and path length are read before the first arc, so that they belong to one walk.
 fn relax_row(
     m: usize,
     p: usize,
@@ -132,8 +135,14 @@ fn relax_row(
     lengths: &mut [usize],
 ) -> Turn
     requires { ⌜ Fit m p source (listsOf (now offsets) (now heads) (now weights)) ⌝ }
-    requires { ⌜ Open m p source (listsOf (now offsets) (now heads) (now weights)) u (getD (now dist) u (pos 0)) (getD (now lengths) u 0) (getD (now offsets) u 0) head waiting (memoryOf (now dist) (now queue) (now queued) (now lengths)) ⌝ }
-    ensures { λ r. ⌜ RowDone m p source (listsOf (now (offsets .entry)) (now (heads .entry)) (now (weights .entry))) head waiting (memoryOf (now (dist .entry)) (now (queue .entry)) (now (queued .entry)) (now (lengths .entry))) (memoryOf (now (dist .exit)) (now (queue .exit)) (now (queued .exit)) (now (lengths .exit))) (r .negative) (r .size) ⌝ }
+    requires { ⌜ Open m p source
+        (listsOf (now offsets) (now heads) (now weights)) u
+        (getD (now dist) u (pos 0)) (getD (now lengths) u 0) (getD (now offsets) u 0) head waiting
+        (memoryOf (now dist) (now queue) (now queued) (now lengths)) ⌝ }
+    ensures { λ r. ⌜ RowDone m p source
+        (listsOf (now (offsets .entry)) (now (heads .entry)) (now (weights .entry))) head waiting
+        (memoryOf (now (dist .entry)) (now (queue .entry)) (now (queued .entry)) (now (lengths .entry)))
+        (memoryOf (now (dist .exit)) (now (queue .exit)) (now (queued .exit)) (now (lengths .exit))) (r .negative) (r .size) ⌝ }
 {
     let d = dist[u];
     let k = lengths[u];
@@ -183,7 +192,10 @@ fn search(
 ) -> bool
     requires { ⌜ Fit m p source (listsOf (now offsets) (now heads) (now weights)) ⌝ }
     requires { ⌜ Fresh m (memoryOf (now dist) (now queue) (now queued) (now lengths)) ⌝ }
-    ensures { λ r. ⌜ Searched m source (listsOf (now (offsets .entry)) (now (heads .entry)) (now (weights .entry))) (memoryOf (now (dist .entry)) (now (queue .entry)) (now (queued .entry)) (now (lengths .entry))) (memoryOf (now (dist .exit)) (now (queue .exit)) (now (queued .exit)) (now (lengths .exit))) r ⌝ }
+    ensures { λ r. ⌜ Searched m source
+        (listsOf (now (offsets .entry)) (now (heads .entry)) (now (weights .entry)))
+        (memoryOf (now (dist .entry)) (now (queue .entry)) (now (queued .entry)) (now (lengths .entry)))
+        (memoryOf (now (dist .exit)) (now (queue .exit)) (now (queued .exit)) (now (lengths .exit))) r ⌝ }
 {
     store(dist, source, 0);
     let mut size: usize = push(m, 0, 0, queue, queued, source);
@@ -227,9 +239,12 @@ fn long_enough(
     queued: &[usize],
     lengths: &[usize],
 ) -> bool
-    ensures { λ r. ⌜ r ≡ longEnough m a (buffersOf (now (dist .entry)) (now (offsets .entry)) (now (heads .entry)) (now (weights .entry)) (now (queue .entry)) (now (queued .entry)) (now (lengths .entry))) ⌝ }
+    ensures { λ r.
+        let lent = buffersOf (now (dist .entry)) (now (offsets .entry)) (now (heads .entry)) (now (weights .entry)) (now (queue .entry))
+        (now (queued .entry)) (now (lengths .entry)) in
+        ⌜ r ≡ longEnough m a lent ⌝ }
 {
-    if !rows::has_room(m, a, offsets, heads, weights) {
+    if !rows::has_lists(m, a, offsets, heads, weights) {
         return false;
     }
     if dist.len() < m {
@@ -259,12 +274,17 @@ fn refusal(
     queued: &[usize],
     lengths: &[usize],
 ) -> usize
-    ensures { λ r. ⌜ r ≡ refusalNo (netOf (map .bound) (map .count) (map .directed) (now (marks .entry)) (now (from .entry)) (now (to .entry)) (now (costs .entry))) (buffersOf (now (dist .entry)) (now (offsets .entry)) (now (heads .entry)) (now (weights .entry)) (now (queue .entry)) (now (queued .entry)) (now (lengths .entry))) ⌝ }
+    ensures { λ r.
+        let net = netOf (map .bound) (map .count) (map .directed) (now (marks .entry)) (now (from .entry)) (now (to .entry))
+        (now (costs .entry)) in
+        let lent = buffersOf (now (dist .entry)) (now (offsets .entry)) (now (heads .entry)) (now (weights .entry)) (now (queue .entry))
+        (now (queued .entry)) (now (lengths .entry)) in
+        ⌜ r ≡ refusalNo net lent ⌝ }
 {
     if !net::whole(map, marks, from, to, costs) {
         return 1;
     }
-    let a = net::arc_room(map.directed, map.count);
+    let a = net::most_arcs(map.directed, map.count);
     if !long_enough(
         map.bound,
         a,
@@ -295,8 +315,13 @@ fn wipe(
     queued: &mut [usize],
     lengths: &mut [usize],
 )
-    requires { ⌜ Room m a (scratchOf (now offsets) (now heads) (now weights) (now queue) (now queued) (now lengths)) ⌝ }
-    ensures { λ r. ⌜ scratchOf (now (offsets .exit)) (now (heads .exit)) (now (weights .exit)) (now (queue .exit)) (now (queued .exit)) (now (lengths .exit)) ≡ wipedAll m a (scratchOf (now (offsets .entry)) (now (heads .entry)) (now (weights .entry)) (now (queue .entry)) (now (queued .entry)) (now (lengths .entry))) ⌝ }
+    requires { ⌜ EnoughScratch m a (scratchOf (now offsets) (now heads) (now weights) (now queue) (now queued) (now lengths)) ⌝ }
+    ensures { λ r.
+        let lent = scratchOf (now (offsets .entry)) (now (heads .entry)) (now (weights .entry)) (now (queue .entry)) (now (queued .entry))
+        (now (lengths .entry)) in
+        let left = scratchOf (now (offsets .exit)) (now (heads .exit)) (now (weights .exit)) (now (queue .exit)) (now (queued .exit))
+        (now (lengths .exit)) in
+        ⌜ left ≡ wipedAll m a lent ⌝ }
 {
     rows::wipe(m, a, offsets, heads, weights);
     clean::clear_usize(queue, m);
@@ -329,8 +354,17 @@ fn solve(
     queued: &mut [usize],
     lengths: &mut [usize],
 ) -> bool
-    requires { ⌜ Ripe (netOf (map .bound) (map .count) (map .directed) (now marks) (now from) (now to) (now costs)) source (buffersOf (now dist) (now offsets) (now heads) (now weights) (now queue) (now queued) (now lengths)) ⌝ }
-    ensures { λ r. ⌜ Solved (netOf (map .bound) (map .count) (map .directed) (now (marks .entry)) (now (from .entry)) (now (to .entry)) (now (costs .entry))) source (buffersOf (now (dist .entry)) (now (offsets .entry)) (now (heads .entry)) (now (weights .entry)) (now (queue .entry)) (now (queued .entry)) (now (lengths .entry))) (buffersOf (now (dist .exit)) (now (offsets .exit)) (now (heads .exit)) (now (weights .exit)) (now (queue .exit)) (now (queued .exit)) (now (lengths .exit))) r ⌝ }
+    requires { ⌜ Ripe
+        (netOf (map .bound) (map .count) (map .directed) (now marks) (now from) (now to) (now costs)) source
+        (buffersOf (now dist) (now offsets) (now heads) (now weights) (now queue) (now queued) (now lengths)) ⌝ }
+    ensures { λ r.
+        let net = netOf (map .bound) (map .count) (map .directed) (now (marks .entry)) (now (from .entry)) (now (to .entry))
+        (now (costs .entry)) in
+        let lent = buffersOf (now (dist .entry)) (now (offsets .entry)) (now (heads .entry)) (now (weights .entry)) (now (queue .entry))
+        (now (queued .entry)) (now (lengths .entry)) in
+        let left = buffersOf (now (dist .exit)) (now (offsets .exit)) (now (heads .exit)) (now (weights .exit)) (now (queue .exit))
+        (now (queued .exit)) (now (lengths .exit)) in
+        ⌜ Solved net source lent left r ⌝ }
 {
     let m = map.bound;
     rows::position_csr(map, from, to, costs, offsets, heads, weights);
@@ -365,9 +399,16 @@ pub fn bellman_ford(
     queued: &mut [usize],
     lengths: &mut [usize],
 ) -> usize
-    ensures { λ r. ⌜ Promise (netOf (map .bound) (map .count) (map .directed) (now (marks .entry)) (now (from .entry)) (now (to .entry)) (now (costs .entry))) source (buffersOf (now (dist .entry)) (now (offsets .entry)) (now (heads .entry)) (now (weights .entry)) (now (queue .entry)) (now (queued .entry)) (now (lengths .entry))) (buffersOf (now (dist .exit)) (now (offsets .exit)) (now (heads .exit)) (now (weights .exit)) (now (queue .exit)) (now (queued .exit)) (now (lengths .exit))) r ⌝ }
+    ensures { λ r.
+        let net = netOf (map .bound) (map .count) (map .directed) (now (marks .entry)) (now (from .entry)) (now (to .entry))
+        (now (costs .entry)) in
+        let lent = buffersOf (now (dist .entry)) (now (offsets .entry)) (now (heads .entry)) (now (weights .entry)) (now (queue .entry))
+        (now (queued .entry)) (now (lengths .entry)) in
+        let left = buffersOf (now (dist .exit)) (now (offsets .exit)) (now (heads .exit)) (now (weights .exit)) (now (queue .exit))
+        (now (queued .exit)) (now (lengths .exit)) in
+        ⌜ Promise net source lent left r ⌝ }
 {
-    let no = refusal(
+    let refused = refusal(
         map,
         marks,
         from,
@@ -381,11 +422,11 @@ pub fn bellman_ford(
         queued,
         lengths,
     );
-    if no != 0 {
-        return no;
+    if refused != 0 {
+        return refused;
     }
     let m = map.bound;
-    let a = net::arc_room(map.directed, map.count);
+    let a = net::most_arcs(map.directed, map.count);
     clean::blank_i64(dist, m);
     if !net::has_index(m, marks, source) {
         wipe(m, a, offsets, heads, weights, queue, queued, lengths);

@@ -1,4 +1,5 @@
-// The f64 cases that 01 names, on maps of three indices. A line for each: its name, the number, and per index the bits of the distance and the predecessor.
+// The f64 cases that 01 names, on maps of three indices. A line for each:
+// its name, the number, and per index the bits of the distance and the predecessor.
 use float::Cutoff;
 use libc::STDOUT_FILENO;
 use table::Map;
@@ -72,8 +73,8 @@ fn search(name: &[u8], bits: &[u64; 3], opens: &[u8; 3], cutoff: Cutoff) {
     let mut offsets = [0usize; 4];
     let mut heads = [0u16; 3];
     let mut weights = [0u64; 3];
-    let mut heap = [0usize; 3];
-    let mut places = [0usize; 3];
+    let mut peaks = [0usize; 3];
+    let mut words = [0usize; 3];
     let mut keys = [0u64; 3];
     let number = dijkstra_path::dijkstra_path_f64(
         map,
@@ -89,8 +90,8 @@ fn search(name: &[u8], bits: &[u64; 3], opens: &[u8; 3], cutoff: Cutoff) {
         &mut offsets,
         &mut heads,
         &mut weights,
-        &mut heap,
-        &mut places,
+        &mut peaks,
+        &mut words,
         &mut keys,
     );
     put_line(name, number, &dist, &preds);

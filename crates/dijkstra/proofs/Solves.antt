@@ -9,13 +9,13 @@ use lib.ListN.{length}
 use Rattle.whole.specs.Zed.{Cost32}
 use Rattle.table.specs.Links.{links, Arc}
 use Rattle.walks.specs.Costs.{Costs32}
-use Rattle.net.specs.Net.{Net, netOf, arcRoom}
-use Rattle.rows.specs.Rows.{Lists, Ready, Room, Rows, arcsInts}
+use Rattle.net.specs.Net.{Net, netOf, mostArcs}
+use Rattle.rows.specs.Rows.{Lists, Ready, EnoughFor, Rows, arcsInts}
 use Rattle.rows.specs.RowArc.{RowArc}
 use Rattle.rows.proofs.Maps.{ready-ints, arcs-are, net-sound, net-kept, net-room, row-small}
 use Rattle.turns.specs.Memory.{Memory}
 use Rattle.turns.specs.Firsts.{KeptMemory}
-use Rattle.search.specs.Runs.{Cheap, Reached}
+use Rattle.search.specs.Runs.{Cheap, ToAll}
 use Rattle.search.proofs.Runs.{reached-over}
 use Rattle.dijkstra.specs.Promise.{Buffers, memory}
 use Rattle.dijkstra.specs.Parts.{Ripe, Solved}
@@ -30,7 +30,7 @@ module _ {m n : ℕ} {d : Bool} {xs ys : List ℕ} {cs : List ℤ} {s : ℕ} {b 
   ready = ready-ints m n d (ripe .marks) xs ys cs (ripe .whole) (ripe .inside)
 
   -- there is room for its arcs
-  pub list-room : Room (arcsInts d n xs ys cs) m (b .scratch .rows)
+  pub list-room : EnoughFor (arcsInts d n xs ys cs) m (b .scratch .rows)
   list-room = net-room g (ripe .rows)
 
   module _ {nb : Lists ℤ} (r : Rows (arcsInts d n xs ys cs) m (b .scratch .rows) nb) where
@@ -42,6 +42,8 @@ module _ {m n : ℕ} {d : Bool} {xs ys : List ℕ} {cs : List ℤ} {s : ℕ} {b 
     }
 
     -- the search over the list answers over the map's arcs
-    pub solved : {M : Memory ℤ} {no : ℕ} → Costs32 (Arc d (links n xs ys cs)) → Reached (RowArc m nb) m s (b .dist) (M .dist) no → KeptMemory m (memory b) M
-        → Solved (Arc d (links n xs ys cs)) m (arcRoom d n) s b (record { dist = M .dist; scratch = record { rows = nb; preds = M .preds; heap = M .heap; places = M .places; keys = M .keys } }) no
-    solved f w k = record { answer = reached-over (λ u v c. arcs-are g (ripe .inside) r u v c .0) (λ u v c. arcs-are g (ripe .inside) r u v c .1) w; costs = f; rows = net-kept g (ripe .inside) r; rest = k }
+    pub solved : {M : Memory ℤ} {number : ℕ} → Costs32 (Arc d (links n xs ys cs)) → ToAll (RowArc m nb) m s (b .dist) (M .dist) number → KeptMemory m (memory b) M
+        → Solved (Arc d (links n xs ys cs)) m (mostArcs d n) s b (record { dist = M .dist; scratch = record { rows = nb; preds = M .preds; peaks = M .peaks; words = M .words; keys = M .keys } })
+        number
+    solved f w k =
+        record { answer = reached-over (λ u v c. arcs-are g (ripe .inside) r u v c .0) (λ u v c. arcs-are g (ripe .inside) r u v c .1) w; costs = f; rows = net-kept g (ripe .inside) r; rest = k }

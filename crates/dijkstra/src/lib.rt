@@ -6,9 +6,9 @@ ghost use lib.ListN.{length};
 ghost use Rattle.clean.specs.None.{noneI64};
 ghost use Rattle.clean.specs.Fill.{filled};
 ghost use Rattle.table.specs.Links.{links, Arc};
-ghost use Rattle.net.specs.Net.{netOf, arcRoom};
+ghost use Rattle.net.specs.Net.{netOf, mostArcs};
 ghost use Rattle.dijkstra.specs.Promise.{Promise, buffersOf, scratchOf, longEnough, wipedAll};
-ghost use Rattle.dijkstra.specs.Parts.{refusalNo, Room, Ripe, Solved};
+ghost use Rattle.dijkstra.specs.Parts.{refusalNo, EnoughScratch, Ripe, Solved};
 
 // Is each buffer as long as the part used?
 fn long_enough(
@@ -19,19 +19,23 @@ fn long_enough(
     heads: &[u16],
     weights: &[i64],
     preds: &[u32],
-    heap: &[usize],
-    places: &[usize],
+    peaks: &[usize],
+    words: &[usize],
     keys: &[i64],
 ) -> bool
-    ensures { λ r. ⌜ r ≡ longEnough m a (buffersOf (now (dist .entry)) (now (offsets .entry)) (now (heads .entry)) (now (weights .entry)) (now (preds .entry)) (now (heap .entry)) (now (places .entry)) (now (keys .entry))) ⌝ }
+    ensures { λ r.
+        let lent = buffersOf (now (dist .entry)) (now (offsets .entry)) (now (heads .entry)) (now (weights .entry)) (now (preds .entry))
+        (now (peaks .entry)) (now (words .entry)) (now (keys .entry)) in
+        ⌜ r ≡ longEnough m a lent ⌝ }
 {
-    if !rows::has_room(m, a, offsets, heads, weights) {
+    if !rows::has_lists(m, a, offsets, heads, weights) {
         return false;
     }
-    search::has_memory(m, dist, preds, heap, places, keys)
+    search::ints::has_memory(m, dist, preds, peaks, words, keys)
 }
 
-// 1 where a limit is passed or a lent slice is too short, 2 where a link names an index that the map has not, 3 where the source is one, else 0.
+// 1 where a limit is passed or a lent slice is too short,
+// 2 where a link names an index that the map has not, 3 where the source is one, else 0.
 fn refusal(
     map: Map,
     marks: &[u8],
@@ -44,16 +48,21 @@ fn refusal(
     heads: &[u16],
     weights: &[i64],
     preds: &[u32],
-    heap: &[usize],
-    places: &[usize],
+    peaks: &[usize],
+    words: &[usize],
     keys: &[i64],
 ) -> usize
-    ensures { λ r. ⌜ r ≡ refusalNo (netOf (map .bound) (map .count) (map .directed) (now (marks .entry)) (now (from .entry)) (now (to .entry)) (now (costs .entry))) source (buffersOf (now (dist .entry)) (now (offsets .entry)) (now (heads .entry)) (now (weights .entry)) (now (preds .entry)) (now (heap .entry)) (now (places .entry)) (now (keys .entry))) ⌝ }
+    ensures { λ r.
+        let net = netOf (map .bound) (map .count) (map .directed) (now (marks .entry)) (now (from .entry)) (now (to .entry))
+        (now (costs .entry)) in
+        let lent = buffersOf (now (dist .entry)) (now (offsets .entry)) (now (heads .entry)) (now (weights .entry)) (now (preds .entry))
+        (now (peaks .entry)) (now (words .entry)) (now (keys .entry)) in
+        ⌜ r ≡ refusalNo net source lent ⌝ }
 {
     if !net::whole(map, marks, from, to, costs) {
         return 1;
     }
-    let a = net::arc_room(map.directed, map.count);
+    let a = net::most_arcs(map.directed, map.count);
     if !long_enough(
         map.bound,
         a,
@@ -62,8 +71,8 @@ fn refusal(
         heads,
         weights,
         preds,
-        heap,
-        places,
+        peaks,
+        words,
         keys,
     ) {
         return 1;
@@ -85,26 +94,32 @@ fn wipe(
     heads: &mut [u16],
     weights: &mut [i64],
     preds: &mut [u32],
-    heap: &mut [usize],
-    places: &mut [usize],
+    peaks: &mut [usize],
+    words: &mut [usize],
     keys: &mut [i64],
 )
-    requires { ⌜ Room m a (scratchOf (now offsets) (now heads) (now weights) (now preds) (now heap) (now places) (now keys)) ⌝ }
-    ensures { λ r. ⌜ scratchOf (now (offsets .exit)) (now (heads .exit)) (now (weights .exit)) (now (preds .exit)) (now (heap .exit)) (now (places .exit)) (now (keys .exit)) ≡ wipedAll m a (scratchOf (now (offsets .entry)) (now (heads .entry)) (now (weights .entry)) (now (preds .entry)) (now (heap .entry)) (now (places .entry)) (now (keys .entry))) ⌝ }
+    requires { ⌜ EnoughScratch m a (scratchOf (now offsets) (now heads) (now weights) (now preds) (now peaks) (now words) (now keys)) ⌝ }
+    ensures { λ r.
+        let lent = scratchOf (now (offsets .entry)) (now (heads .entry)) (now (weights .entry)) (now (preds .entry)) (now (peaks .entry))
+        (now (words .entry)) (now (keys .entry)) in
+        let left = scratchOf (now (offsets .exit)) (now (heads .exit)) (now (weights .exit)) (now (preds .exit)) (now (peaks .exit))
+        (now (words .exit)) (now (keys .exit)) in
+        ⌜ left ≡ wipedAll m a lent ⌝ }
 {
     rows::wipe(m, a, offsets, heads, weights);
     clean::clear_u32(preds, m);
-    clean::clear_usize(heap, m);
-    clean::clear_usize(places, m);
+    clean::clear_usize(peaks, m);
+    clean::clear_usize(words, m);
     clean::clear_i64(keys, m);
 }
 
 // None in the distances used, unless the number is 0.
-fn blank_refused(no: usize, dist: &mut [i64], m: usize)
+fn blank_refused(number: usize, dist: &mut [i64], m: usize)
     requires { ⌜ m ≤ length (now dist) ⌝ }
-    ensures { λ r. ⌜ (no ≡ 0 → now (dist .exit) ≡ now (dist .entry)) × ((no ≡ 0 → ⊥) → now (dist .exit) ≡ filled m noneI64 (now (dist .entry))) ⌝ }
+    ensures { λ r. ⌜ (number ≡ 0 → now (dist .exit) ≡ now (dist .entry))
+        × ((number ≡ 0 → ⊥) → now (dist .exit) ≡ filled m noneI64 (now (dist .entry))) ⌝ }
 {
-    if no != 0 {
+    if number != 0 {
         clean::blank_i64(dist, m);
     }
 }
@@ -121,15 +136,23 @@ fn solve(
     heads: &mut [u16],
     weights: &mut [i64],
     preds: &mut [u32],
-    heap: &mut [usize],
-    places: &mut [usize],
+    peaks: &mut [usize],
+    words: &mut [usize],
     keys: &mut [i64],
 ) -> usize
-    requires { ⌜ Ripe (map .bound) (map .count) (map .directed) (now from) (now to) (now costs) source (buffersOf (now dist) (now offsets) (now heads) (now weights) (now preds) (now heap) (now places) (now keys)) ⌝ }
-    ensures { λ r. ⌜ Solved (Arc (map .directed) (links (map .count) (now (from .entry)) (now (to .entry)) (now (costs .entry)))) (map .bound) (arcRoom (map .directed) (map .count)) source (buffersOf (now (dist .entry)) (now (offsets .entry)) (now (heads .entry)) (now (weights .entry)) (now (preds .entry)) (now (heap .entry)) (now (places .entry)) (now (keys .entry))) (buffersOf (now (dist .exit)) (now (offsets .exit)) (now (heads .exit)) (now (weights .exit)) (now (preds .exit)) (now (heap .exit)) (now (places .exit)) (now (keys .exit))) r ⌝ }
+    requires { ⌜ Ripe (map .bound) (map .count) (map .directed) (now from) (now to) (now costs) source
+        (buffersOf (now dist) (now offsets) (now heads) (now weights) (now preds) (now peaks) (now words) (now keys)) ⌝ }
+    ensures { λ r.
+        let lent = buffersOf (now (dist .entry)) (now (offsets .entry)) (now (heads .entry)) (now (weights .entry)) (now (preds .entry))
+        (now (peaks .entry)) (now (words .entry)) (now (keys .entry)) in
+        let left = buffersOf (now (dist .exit)) (now (offsets .exit)) (now (heads .exit)) (now (weights .exit)) (now (preds .exit))
+        (now (peaks .exit)) (now (words .exit)) (now (keys .exit)) in
+        ⌜ Solved
+        (Arc (map .directed) (links (map .count) (now (from .entry)) (now (to .entry)) (now (costs .entry)))) (map .bound)
+        (mostArcs (map .directed) (map .count)) source lent left r ⌝ }
 {
     rows::position_csr(map, from, to, costs, offsets, heads, weights);
-    search::to_all(
+    search::ints::to_all(
         map.bound,
         source,
         offsets,
@@ -137,8 +160,8 @@ fn solve(
         weights,
         dist,
         preds,
-        heap,
-        places,
+        peaks,
+        words,
         keys,
     )
 }
@@ -156,13 +179,20 @@ pub fn dijkstra(
     heads: &mut [u16],
     weights: &mut [i64],
     preds: &mut [u32],
-    heap: &mut [usize],
-    places: &mut [usize],
+    peaks: &mut [usize],
+    words: &mut [usize],
     keys: &mut [i64],
 ) -> usize
-    ensures { λ r. ⌜ Promise (netOf (map .bound) (map .count) (map .directed) (now (marks .entry)) (now (from .entry)) (now (to .entry)) (now (costs .entry))) source (buffersOf (now (dist .entry)) (now (offsets .entry)) (now (heads .entry)) (now (weights .entry)) (now (preds .entry)) (now (heap .entry)) (now (places .entry)) (now (keys .entry))) (buffersOf (now (dist .exit)) (now (offsets .exit)) (now (heads .exit)) (now (weights .exit)) (now (preds .exit)) (now (heap .exit)) (now (places .exit)) (now (keys .exit))) r ⌝ }
+    ensures { λ r.
+        let net = netOf (map .bound) (map .count) (map .directed) (now (marks .entry)) (now (from .entry)) (now (to .entry))
+        (now (costs .entry)) in
+        let lent = buffersOf (now (dist .entry)) (now (offsets .entry)) (now (heads .entry)) (now (weights .entry)) (now (preds .entry))
+        (now (peaks .entry)) (now (words .entry)) (now (keys .entry)) in
+        let left = buffersOf (now (dist .exit)) (now (offsets .exit)) (now (heads .exit)) (now (weights .exit)) (now (preds .exit))
+        (now (peaks .exit)) (now (words .exit)) (now (keys .exit)) in
+        ⌜ Promise net source lent left r ⌝ }
 {
-    let no = refusal(
+    let refused = refusal(
         map,
         marks,
         from,
@@ -174,15 +204,15 @@ pub fn dijkstra(
         heads,
         weights,
         preds,
-        heap,
-        places,
+        peaks,
+        words,
         keys,
     );
-    if no != 0 {
-        return no;
+    if refused != 0 {
+        return refused;
     }
     let m = map.bound;
-    let a = net::arc_room(map.directed, map.count);
+    let a = net::most_arcs(map.directed, map.count);
     let end = solve(
         map,
         from,
@@ -194,11 +224,11 @@ pub fn dijkstra(
         heads,
         weights,
         preds,
-        heap,
-        places,
+        peaks,
+        words,
         keys,
     );
-    wipe(m, a, offsets, heads, weights, preds, heap, places, keys);
+    wipe(m, a, offsets, heads, weights, preds, peaks, words, keys);
     blank_refused(end, dist, m);
     end
 }

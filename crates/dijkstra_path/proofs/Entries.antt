@@ -12,7 +12,7 @@ use native.Mathlib.Omega.{arith}
 use lib.Dec.{T}
 use lib.ListN.{getD}
 use lib.Ieee.{Float, inf, binary64, lt, fits, ofBits}
-use Rattle.whole.proofs.Cases.{other, and-left}
+use Rattle.whole.proofs.Cases.{and-left}
 use Rattle.clean.specs.None.{noneF64, noneU32, shown}
 use Rattle.float.specs.Dist.{Dist64, zero64, lt64}
 use Rattle.float.specs.Cutoff.{past}
@@ -21,7 +21,7 @@ use Rattle.float.specs.declared.Cutoff.the-variants.{At}
 use Rattle.float.proofs.Cost.{plus-grows}
 use Rattle.table.specs.Lent.{FloatCost}
 use Rattle.table.proofs.Laws as table
-use Rattle.net.specs.Net.{Net, OpenArcOf, wholeNet, insideNet, has, nodesOf, width, sizeOf}
+use Rattle.net.specs.Net.{Net, OpenArcOf, wholeNet, insideNet, has, nodesOf, width, mostArcsOf}
 use Rattle.net.proofs.Same.{open-has, open-below}
 use Rattle.net.proofs.Nodes.{has-below, present-in}
 use Rattle.walks.specs.Pigeon.{In, NoDup}
@@ -33,7 +33,8 @@ use Rattle.pending.proofs.Source.{Both, neither, both}
 use Rattle.pending.proofs.Stored.{good-dist, pred-arc}
 use Rattle.pending.proofs.Once.{indices, Rising, Took, begin-within, begin-once, takes-few}
 use Rattle.pending.proofs.Cutoff64.{source-alone64}
-use Rattle.dijkstra_path.specs.Promise.{Buffers, longEnough, EndsIn, Promise, short, outside, absent, bad, done}
+use Rattle.dijkstra_path.specs.Promise.{Buffers, longEnough, EndsIn, Promise}
+use Rattle.dijkstra_path.proofs.Settles.{promise-given}
 
 -- after 0 the entries show an end of the pending bag
 pub record Showing (g : Net FloatCost) (s : ℕ) (k : Cutoff) (e : Buffers) : Type 0 where
@@ -46,28 +47,26 @@ pub record Showing (g : Net FloatCost) (s : ℕ) (k : Cutoff) (e : Buffers) : Ty
   pub dist : (v : ℕ) → v < g .bound → getD (e .dist) v noneF64 ≡ shown noneF64 (end .dist v)
   pub preds : (v : ℕ) → v < g .bound → getD (e .preds) v noneU32 ≡ shown noneU32 (end .pred v)
 
-pub showing : {g : Net FloatCost} {s : ℕ} {k : Cutoff} {b e : Buffers} {no : ℕ} → Promise g s k b e no → no ≡ 0 → Showing g s k e
-showing (short n p q) z = other 1 0 n z (λ w. omega arith)
-showing (outside n p i q) z = other 2 0 n z (λ w. omega arith)
-showing (absent n p i h q) z = other 3 0 n z (λ w. omega arith)
-showing (bad n p i h x r y q) z = other 6 0 n z (λ w. omega arith)
-showing {g} {b = b} (done n p i h x r y a q) z = record {
-  end = x;
-  ends = r;
-  number = y;
-  limit = table.whole (g .bound) (g .count) (g .room) (g .marks) (and-left (wholeNet g) (longEnough (g .bound) (sizeOf g) b) p) .indices;
-  inside = i;
-  source = h;
-  dist = λ v l. a .dist .each v noneF64 l;
-  preds = λ v l. a .preds .each v noneU32 l;
-}
+pub showing : {g : Net FloatCost} {s : ℕ} {k : Cutoff} {b e : Buffers} {number : ℕ} → Promise g s k b e number → number ≡ 0 → Showing g s k e
+showing {g} {b = b} p z =
+    let (l, (i, (h, (w, (t, (x, r, y, a, q)))))) = promise-given p 0 z in
+    record {
+      end = x;
+      ends = r;
+      number = y;
+      limit = table.whole (g .bound) (g .count) (g .room) (g .marks) (and-left (wholeNet g) (longEnough (g .bound) (mostArcsOf g) b) l) .indices;
+      inside = i;
+      source = h;
+      dist = λ v k. a .dist .each v noneF64 k;
+      preds = λ v k. a .preds .each v noneU32 k;
+    }
 
 -- the entries of an index: none and none, or a distance and an index below m as its predecessor
 pub data Paired (m d p : ℕ) : Type 0 where
   missing : d ≡ noneF64 → p ≡ noneU32 → Paired m d p
   reached : Dist64 d → p < m → Paired m d p
 
-module _ {g : Net FloatCost} {s : ℕ} {k : Cutoff} {b e : Buffers} {no : ℕ} (promise : Promise g s k b e no) (zero : no ≡ 0) where
+module _ {g : Net FloatCost} {s : ℕ} {k : Cutoff} {b e : Buffers} {number : ℕ} (promise : Promise g s k b e number) (zero : number ≡ 0) where
   -- the source: +0.0 and no predecessor
   pub source-entry : (getD (e .dist) s noneF64 ≡ zero64) × (getD (e .preds) s noneU32 ≡ noneU32)
   source-entry =
@@ -92,7 +91,7 @@ module _ {g : Net FloatCost} {s : ℕ} {k : Cutoff} {b e : Buffers} {no : ℕ} (
           (subst (λ (z : ℕ). z < g .bound) (sym (w .preds v l ∙ ap (shown noneU32) j)) (open-below g (w .inside) u v (a .0) (a .1) .0))
 
 -- under a cutoff below zero every other index has none
-pub source-alone : (c : Float) → T (fits binary64 c) → lt c (ofBits binary64 zero64) ≡ true → {g : Net FloatCost} {s : ℕ} {b e : Buffers} {no : ℕ} → Promise g s (At c) b e no → no ≡ 0
+pub source-alone : (c : Float) → T (fits binary64 c) → lt c (ofBits binary64 zero64) ≡ true → {g : Net FloatCost} {s : ℕ} {b e : Buffers} {number : ℕ} → Promise g s (At c) b e number → number ≡ 0
     → (v : ℕ) → v < g .bound → (v ≡ s → ⊥) → (getD (e .dist) v noneF64 ≡ noneF64) × (getD (e .preds) v noneU32 ≡ noneU32)
 source-alone c held below {g} {s} {e = e} promise zero v l n = go refl refl (from-source64 (past (At c)) none s (OpenArcOf g) (w .end) (w .ends .run) (w .number) .others v n)
   where
@@ -122,7 +121,8 @@ takes-few64 {g} {s} {k} i h r =
     let S = search64 (past k) none s in
     let L = laws64 (past k) none s in
     let at = present-in g s h in
-    takes-few S L (λ d v. refl) plus-grows (OpenArcOf g) (nodesOf g) at (λ u v c a. heads u v c a) (begin-within S (OpenArcOf g) (nodesOf g) at (λ u v c a. heads u v c a)) (begin-once S L (λ d v. refl) plus-grows (OpenArcOf g)) (r .run)
+    takes-few S L (λ d v. refl) plus-grows (OpenArcOf g) (nodesOf g) at (λ u v c a. heads u v c a) (begin-within S (OpenArcOf g) (nodesOf g) at (λ u v c a. heads u v c a))
+    (begin-once S L (λ d v. refl) plus-grows (OpenArcOf g)) (r .run)
   where
     heads : (u v c : ℕ) → OpenArcOf g u v c → In v (nodesOf g)
     heads u v c a = present-in g v (open-has g i u v c a .1)

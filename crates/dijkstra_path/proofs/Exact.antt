@@ -42,8 +42,8 @@ use Rattle.pending.proofs.Once.{plain-ends}
 use Rattle.pending.proofs.Dijkstra.{dijkstra-answer}
 use Rattle.pending.proofs.Like.{AlikeEnd}
 use Rattle.pending.proofs.Exact.{WholeCost, WholeDist, exact}
-use Rattle.dijkstra_path.specs.Promise.{Buffers, EndsIn, Promise, short, outside, absent, bad, done}
-use Rattle.dijkstra_path.proofs.Settles.{one-end}
+use Rattle.dijkstra_path.specs.Promise.{Buffers, EndsIn, Promise}
+use Rattle.dijkstra_path.proofs.Settles.{one-end, promise-given}
 use Rattle.dijkstra_path.proofs.Entries.{Showing, showing}
 
 -- the open arcs that leave an index, listed
@@ -79,25 +79,22 @@ module _ {g : Net FloatCost} {s : ℕ} (Arc : ℕ → ℕ → ℤ → Type 0) (t
       over : Ends (search64 (past None) none s) (OpenArcOf g) (begin (search64 (past None) none s)) 0 (found .0)
       over = ends-map (search64 (past None) none s) (ArcOf (openPairs g)) (OpenArcOf g) (λ u v y. open-listed g u v y) (λ u v y. listed-open g u v y) (found .1)
 
-  module _ {b e : Buffers} {no : ℕ} (promise : Promise g s None b e no) where
-    -- 6 never comes back
-    pub exact-good : no ≡ 6 → ⊥
-    exact-good z = go promise
-      where
-        fine : (u v x : ℕ) → OpenArcOf g u v x → badCost binary64 x ≡ false
-        fine u v x a = let w = from u v x a .2 in ap (badCost binary64) (w .bits) ∙ whole-good (w .size)
+  -- no cost is bad
+  pub exact-good : {x : End ℕ} → EndsIn g s None x → x .number ≡ 6 → ⊥
+  exact-good r z = other 6 0 z (all-good fine (r .run)) (λ w. omega arith)
+    where
+      fine : (u v x : ℕ) → OpenArcOf g u v x → badCost binary64 x ≡ false
+      fine u v x a = let w = from u v x a .2 in ap (badCost binary64) (w .bits) ∙ whole-good (w .size)
 
-        go : Promise g s None b e no → ⊥
-        go (short n p q) = other 1 6 n z (λ w. omega arith)
-        go (outside n p i q) = other 2 6 n z (λ w. omega arith)
-        go (absent n p i h q) = other 3 6 n z (λ w. omega arith)
-        go (bad n p i h x r y q) = other 6 0 y (all-good fine (r .run)) (λ w. omega arith)
-        go (done n p i h x r y a q) = other 0 6 n z (λ w. omega arith)
+  module _ {b e : Buffers} {number : ℕ} (promise : Promise g s None b e number) where
+    -- so 6 never comes back
+    pub never-six : number ≡ 6 → ⊥
+    never-six z = let (l, (i, (h, ((x, r, y), q)))) = promise-given promise 6 z in exact-good r y
 
     -- after 0 the integer search has 0 too, and each index the same distance as a number, and the same predecessor
-    pub exact-answers : no ≡ 0 → {i : End ℤ} → Ends (dijkstra s) Arc (begin (dijkstra s)) 0 i
+    pub exact-answers : number ≡ 0 → {i : End ℤ} → Ends (dijkstra s) Arc (begin (dijkstra s)) 0 i
         → (i .number ≡ 0) × ((v : ℕ) → v < g .bound → SameNumber (i .dist v) (getD (e .dist) v noneF64) × (getD (e .preds) v noneU32 ≡ shown noneU32 (i .pred v)))
-    exact-answers z {i} r = (same .number ∙ w .number, λ v l. (number v l (i .dist v) refl, w .preds v l ∙ ap (shown noneU32) (sym (same .pred v))))
+    exact-answers z {i} r = (same .number ∙ w .number, λ v l. (same-number v l (i .dist v) refl, w .preds v l ∙ ap (shown noneU32) (sym (same .pred v))))
       where
         w : Showing g s None e
         w = showing promise z
@@ -105,9 +102,9 @@ module _ {g : Net FloatCost} {s : ℕ} (Arc : ℕ → ℕ → ℤ → Type 0) (t
         same : AlikeEnd WholeDist i (w .end)
         same = exact-end (w .limit) (w .inside) (w .source) r (w .ends)
 
-        number : (v : ℕ) → v < g .bound → (x : Option ℤ) → i .dist v ≡ x → SameNumber x (getD (e .dist) v noneF64)
-        number v l none q = w .dist v l ∙ ap (shown noneF64) (same .gone v q)
-        number v l (some x) q = let k = same .reached v x q in (k .3 .size, k .3 .is, w .dist v l ∙ ap (shown noneF64) (k .2) ∙ k .3 .value)
+        same-number : (v : ℕ) → v < g .bound → (x : Option ℤ) → i .dist v ≡ x → SameNumber x (getD (e .dist) v noneF64)
+        same-number v l none q = w .dist v l ∙ ap (shown noneF64) (same .gone v q)
+        same-number v l (some x) q = let k = same .reached v x q in (k .3 .size, k .3 .is, w .dist v l ∙ ap (shown noneF64) (k .2) ∙ k .3 .value)
 
 -- the arcs of an integer map that leave an index, listed
 abbrev wholePairs : Net ℤ → ℕ → List (ℕ × ℤ)
@@ -115,7 +112,7 @@ wholePairs h u = pairs u (arcs (h .directed) (linksOf h))
 
 -- against an integer map with the same indices and arcs, the costs converted
 module _ {g : Net FloatCost} (h : Net ℤ) {s : ℕ} (to : (u v : ℕ) (c : ℤ) → net.ArcOf h u v c → (x : ℕ) × OpenArcOf g u v x × WholeCost c x)
-    (from : (u v x : ℕ) → OpenArcOf g u v x → (c : ℤ) × net.ArcOf h u v c × WholeCost c x) {b e : Buffers} {no : ℕ} (promise : Promise g s None b e no) (zero : no ≡ 0) where
+    (from : (u v x : ℕ) → OpenArcOf g u v x → (c : ℤ) × net.ArcOf h u v c × WholeCost c x) {b e : Buffers} {number : ℕ} (promise : Promise g s None b e number) (zero : number ≡ 0) where
   shows : Showing g s None e
   shows = showing promise zero
 
@@ -123,7 +120,8 @@ module _ {g : Net FloatCost} (h : Net ℤ) {s : ℕ} (to : (u v : ℕ) (c : ℤ)
   whole-end : (i : End ℤ) × Ends (dijkstra s) (net.ArcOf h) (begin (dijkstra s)) 0 i
   whole-end =
       let listed : (u v : ℕ) (c : ℤ) → ArcOf (wholePairs h) u v c → net.ArcOf h u v c = λ u v c. pairs-are (h .directed) (linksOf h) u v c .0 in
-      let k = plain-ends (dijkstra s) (whole-laws (λ d v. d) none s) (λ d v. refl) (λ d c x. whole-grows d c) (wholePairs h) (nodesOf g) (present-in g s (shows .source)) (λ u v c a. heads u v c (listed u v c a)) in
+      let k = plain-ends (dijkstra s) (whole-laws (λ d v. d) none s) (λ d v. refl) (λ d c x. whole-grows d c) (wholePairs h) (nodesOf g) (present-in g s (shows .source))
+      (λ u v c a. heads u v c (listed u v c a)) in
       (k .0, ends-map (dijkstra s) (ArcOf (wholePairs h)) (net.ArcOf h) listed (λ u v c. pairs-are (h .directed) (linksOf h) u v c .1) (k .2))
     where
       heads : (u v : ℕ) (c : ℤ) → net.ArcOf h u v c → In v (nodesOf g)

@@ -1,5 +1,3 @@
-pub mod Floats
-pub mod Tests
 pub mod Settles
 pub mod Entries
 pub mod Exact

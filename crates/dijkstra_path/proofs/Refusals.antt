@@ -3,18 +3,20 @@
 use mathlib.Core.Path.{_≡_, refl, sym, ap, _∙_}
 use mathlib.Core.Bool.{Bool, true, false}
 use Prim.Native.Nat.{ℕ, _+_, _≤_}
-use native.Mathlib.Omega.{arith}
 use borrow.Author.Tests.{leb-true}
 use lib.Dec.{leb}
 use lib.ListN.{length}
 use Rattle.whole.proofs.Cases.{and-left, and-right}
+use Rattle.numbers.proofs.Numbers.{_then_}
+use Rattle.numbers.proofs.Numbers as numbers
 use Rattle.table.specs.Lent.{FloatCost}
-use Rattle.net.specs.Net.{Net, wholeNet, insideNet, has, sizeOf}
+use Rattle.net.specs.Net.{Net, wholeNet, insideNet, has, mostArcsOf}
 use Rattle.turns.specs.Memory.{memoryOf}
-use Rattle.turns.specs.Firsts.{Roomy}
-use Rattle.dijkstra_path.specs.Promise.{Buffers, longEnough, enough, Promise, short, outside, absent}
+use Rattle.turns.specs.Firsts.{EnoughMemory}
+use Rattle.dijkstra_path.specs.Promise.{Buffers, longEnough, enough, table, Promise}
 use Rattle.dijkstra_path.specs.Parts.{refusalNo}
 use Rattle.float.specs.declared.Cutoff.{Cutoff}
+use Rattle.float.specs.declared.Cutoff.the-variants.{None}
 
 module _ (g : Net FloatCost) (s : ℕ) (b : Buffers) where
   -- ---- the tests, one after the other
@@ -23,8 +25,8 @@ module _ (g : Net FloatCost) (s : ℕ) (b : Buffers) where
   refused-limits e = rw e
 
   -- the test of the buffers, which said r
-  module _ (e : wholeNet g ≡ true) {a : ℕ} {r : Bool} (said : r ≡ longEnough (g .bound) a b) (room : a ≡ sizeOf g) where
-    gave : longEnough (g .bound) (sizeOf g) b ≡ r
+  module _ (e : wholeNet g ≡ true) {a : ℕ} {r : Bool} (said : r ≡ longEnough (g .bound) a b) (room : a ≡ mostArcsOf g) where
+    gave : longEnough (g .bound) (mostArcsOf g) b ≡ r
     gave = sym (said ∙ ap (λ (n : ℕ). longEnough (g .bound) n b) room)
 
     pub refused-short : r ≡ false → 1 ≡ refusalNo g s b
@@ -46,37 +48,25 @@ module _ (g : Net FloatCost) (s : ℕ) (b : Buffers) where
   -- a refusal is what the promise says
   pub refused : (k : Cutoff) (r : ℕ) → r ≡ refusalNo g s b → (r ≡ 0 → ⊥) → Promise g s k b b r
   unfolding refusalNo
-  refused k r q f = go (enough g b) (insideNet g) (has g s) refl refl refl
-    where
-      go : (x y z : Bool) → enough g b ≡ x → insideNet g ≡ y → has g s ≡ z → Promise g s k b b r
-      go false y z e i h = short (q ∙ rw e) e refl
-      go true false z e i h = outside (q ∙ rw (e, i)) e i refl
-      go true true false e i h = absent (q ∙ rw (e, i, h)) e i h refl
-      go true true true e i h = absurd (f (q ∙ rw (e, i, h)))
+  refused k r q f = record { follows = numbers.refused 3 (table g s k b) b (refl then refl then refl then tt) r q f }
 
   -- no refusal: every test was passed
   pub passed : refusalNo g s b ≡ 0 → (enough g b ≡ true) × (insideNet g ≡ true) × (has g s ≡ true)
   unfolding refusalNo
-  passed q = go (enough g b) (insideNet g) (has g s) refl refl refl
-    where
-      go : (x y z : Bool) → enough g b ≡ x → insideNet g ≡ y → has g s ≡ z → (enough g b ≡ true) × (insideNet g ≡ true) × (has g s ≡ true)
-      go false y z e i h = absurd (let n : refusalNo g s b ≡ 1 = rw e in omega (arith, q, n))
-      go true false z e i h = absurd (let n : refusalNo g s b ≡ 2 = rw (e, i) in omega (arith, q, n))
-      go true true false e i h = absurd (let n : refusalNo g s b ≡ 3 = rw (e, i, h) in omega (arith, q, n))
-      go true true true e i h = (e, i, h)
+  passed q = let w = numbers.passed 3 (table g s None b) (refl then refl then refl then tt) q in (w .0, w .1 .0, w .1 .1 .0)
 
   -- the buffers are long enough
   pub record Long : Type 0 where
     pub offsets : g .bound + 1 ≤ length (b .offsets)
-    pub heads : sizeOf g ≤ length (b .heads)
-    pub weights : sizeOf g ≤ length (b .weights)
-    pub lists : Roomy (g .bound) (memoryOf (b .dist) (b .preds) (b .heap) (b .places) (b .keys))
+    pub heads : mostArcsOf g ≤ length (b .heads)
+    pub weights : mostArcsOf g ≤ length (b .weights)
+    pub lists : EnoughMemory (g .bound) (memoryOf (b .dist) (b .preds) (b .peaks) (b .words) (b .keys))
 
   module _ (ok : refusalNo g s b ≡ 0) where
     pub whole-of : wholeNet g ≡ true
     whole-of = and-left (wholeNet g) _ (passed ok .0)
 
-    all-long : longEnough (g .bound) (sizeOf g) b ≡ true
+    all-long : longEnough (g .bound) (mostArcsOf g) b ≡ true
     all-long = and-right (wholeNet g) _ (passed ok .0)
 
     pub long-of : Long
@@ -86,18 +76,18 @@ module _ (g : Net FloatCost) (s : ℕ) (b : Buffers) where
         let e1 = and-right (leb m (length (b .dist))) _ all-long in
         let e2 = and-right (leb m (length (b .preds))) _ e1 in
         let e3 = and-right (leb (m + 1) (length (b .offsets))) _ e2 in
-        let e4 = and-right (leb (sizeOf g) (length (b .heads))) _ e3 in
-        let e5 = and-right (leb (sizeOf g) (length (b .weights))) _ e4 in
-        let e6 = and-right (leb m (length (b .heap))) _ e5 in
+        let e4 = and-right (leb (mostArcsOf g) (length (b .heads))) _ e3 in
+        let e5 = and-right (leb (mostArcsOf g) (length (b .weights))) _ e4 in
+        let e6 = and-right (leb m (length (b .peaks))) _ e5 in
         record {
           offsets = leb-true _ _ (and-left (leb (m + 1) (length (b .offsets))) _ e2);
-          heads = leb-true _ _ (and-left (leb (sizeOf g) (length (b .heads))) _ e3);
-          weights = leb-true _ _ (and-left (leb (sizeOf g) (length (b .weights))) _ e4);
+          heads = leb-true _ _ (and-left (leb (mostArcsOf g) (length (b .heads))) _ e3);
+          weights = leb-true _ _ (and-left (leb (mostArcsOf g) (length (b .weights))) _ e4);
           lists = record {
             dist = leb-true _ _ (and-left (leb m (length (b .dist))) _ all-long);
             preds = leb-true _ _ (and-left (leb m (length (b .preds))) _ e1);
-            heap = leb-true _ _ (and-left (leb m (length (b .heap))) _ e5);
-            places = leb-true _ _ (and-left (leb m (length (b .places))) _ e6);
-            keys = leb-true _ _ (and-right (leb m (length (b .places))) _ e6);
+            peaks = leb-true _ _ (and-left (leb m (length (b .peaks))) _ e5);
+            words = leb-true _ _ (and-left (leb m (length (b .words))) _ e6);
+            keys = leb-true _ _ (and-right (leb m (length (b .words))) _ e6);
           };
         }

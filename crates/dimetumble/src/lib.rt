@@ -1,5 +1,6 @@
 // The questions and puts as C functions. Each makes the map of its scalars, asks the question, and promises what that promises.
-// A slice is a pointer and a length. A flag is a byte: 0 is no, any other is yes. What a question gives beside its number is written to a lent place.
+// A slice is a pointer and a length. A flag is a byte: 0 is no, any other is yes.
+// What a question gives beside its number is written to a lent place.
 use float::Cutoff;
 use table::Map;
 ghost use mathlib.Core.Path.{_≡_};
@@ -41,7 +42,9 @@ pub extern "C" fn dimetumble_put(
     b: u16,
     cost: i32,
 ) -> usize
-    ensures { λ r. ⌜ intsNow r (now (count .exit)) (now (from .exit)) (now (to .exit)) (now (costs .exit)) ≡ putInts (isSet directed) bound (now (marks .entry)) (linkOf a b cost) (now (count .entry)) (now (from .entry)) (now (to .entry)) (now (costs .entry)) ⌝ }
+    ensures { λ r. ⌜ intsNow r (now (count .exit)) (now (from .exit)) (now (to .exit)) (now (costs .exit))
+        ≡ putInts (isSet directed) bound (now (marks .entry)) (linkOf a b cost) (now (count .entry)) (now (from .entry)) (now (to .entry))
+        (now (costs .entry)) ⌝ }
 {
     let done = table::put(
         Map {
@@ -77,7 +80,9 @@ pub extern "C" fn dimetumble_put_f64(
     pattern: u64,
     opened: u8,
 ) -> usize
-    ensures { λ r. ⌜ floatsNow r (now (count .exit)) (now (from .exit)) (now (to .exit)) (now (bits .exit)) (now (opens .exit)) ≡ putFloats (isSet directed) bound (now (marks .entry)) (linkOf a b (rawCost pattern opened)) (now (count .entry)) (now (from .entry)) (now (to .entry)) (now (bits .entry)) (now (opens .entry)) ⌝ }
+    ensures { λ r. ⌜ floatsNow r (now (count .exit)) (now (from .exit)) (now (to .exit)) (now (bits .exit)) (now (opens .exit))
+        ≡ putFloats (isSet directed) bound (now (marks .entry)) (linkOf a b (rawCost pattern opened)) (now (count .entry))
+        (now (from .entry)) (now (to .entry)) (now (bits .entry)) (now (opens .entry)) ⌝ }
 {
     let done = table::put_f64(
         Map {
@@ -115,11 +120,16 @@ pub extern "C" fn dimetumble_dijkstra(
     heads: &mut [u16],
     weights: &mut [i64],
     preds: &mut [u32],
-    heap: &mut [usize],
-    places: &mut [usize],
+    peaks: &mut [usize],
+    words: &mut [usize],
     keys: &mut [i64],
 ) -> usize
-    ensures { λ r. ⌜ dijkstra.Promise (netOf bound count (isSet directed) (now (marks .entry)) (now (from .entry)) (now (to .entry)) (now (costs .entry))) source (dijkstra.buffersOf (now (dist .entry)) (now (offsets .entry)) (now (heads .entry)) (now (weights .entry)) (now (preds .entry)) (now (heap .entry)) (now (places .entry)) (now (keys .entry))) (dijkstra.buffersOf (now (dist .exit)) (now (offsets .exit)) (now (heads .exit)) (now (weights .exit)) (now (preds .exit)) (now (heap .exit)) (now (places .exit)) (now (keys .exit))) r ⌝ }
+    ensures { λ r. ⌜ dijkstra.Promise
+        (netOf bound count (isSet directed) (now (marks .entry)) (now (from .entry)) (now (to .entry)) (now (costs .entry))) source
+        (dijkstra.buffersOf (now (dist .entry)) (now (offsets .entry)) (now (heads .entry)) (now (weights .entry)) (now (preds .entry))
+        (now (peaks .entry)) (now (words .entry)) (now (keys .entry)))
+        (dijkstra.buffersOf (now (dist .exit)) (now (offsets .exit)) (now (heads .exit)) (now (weights .exit)) (now (preds .exit))
+        (now (peaks .exit)) (now (words .exit)) (now (keys .exit))) r ⌝ }
 {
     dijkstra::dijkstra(
         Map {
@@ -137,8 +147,8 @@ pub extern "C" fn dimetumble_dijkstra(
         heads,
         weights,
         preds,
-        heap,
-        places,
+        peaks,
+        words,
         keys,
     )
 }
@@ -164,11 +174,18 @@ pub extern "C" fn dimetumble_a_star(
     weights: &mut [i64],
     dist: &mut [i64],
     preds: &mut [u32],
-    heap: &mut [usize],
-    places: &mut [usize],
+    peaks: &mut [usize],
+    words: &mut [usize],
     keys: &mut [i64],
 ) -> usize
-    ensures { λ r. ⌜ a_star.Promise (netOf bound count (isSet directed) (now (marks .entry)) (now (from .entry)) (now (to .entry)) (now (costs .entry))) (a_star.questionOf source target (now (guess .entry))) (a_star.buffersOf (now (path .entry)) (now (offsets .entry)) (now (heads .entry)) (now (weights .entry)) (now (dist .entry)) (now (preds .entry)) (now (heap .entry)) (now (places .entry)) (now (keys .entry))) (a_star.buffersOf (now (path .exit)) (now (offsets .exit)) (now (heads .exit)) (now (weights .exit)) (now (dist .exit)) (now (preds .exit)) (now (heap .exit)) (now (places .exit)) (now (keys .exit))) (a_star.answerOf r (now (cost .exit)) (now (length .exit))) ⌝ }
+    ensures { λ r. ⌜ a_star.Promise
+        (netOf bound count (isSet directed) (now (marks .entry)) (now (from .entry)) (now (to .entry)) (now (costs .entry)))
+        (a_star.questionOf source target (now (guess .entry)))
+        (a_star.buffersOf (now (path .entry)) (now (offsets .entry)) (now (heads .entry)) (now (weights .entry)) (now (dist .entry))
+        (now (preds .entry)) (now (peaks .entry)) (now (words .entry)) (now (keys .entry)))
+        (a_star.buffersOf (now (path .exit)) (now (offsets .exit)) (now (heads .exit)) (now (weights .exit)) (now (dist .exit))
+        (now (preds .exit)) (now (peaks .exit)) (now (words .exit)) (now (keys .exit)))
+        (a_star.answerOf r (now (cost .exit)) (now (length .exit))) ⌝ }
 {
     let reached = a_star::a_star(
         Map {
@@ -189,8 +206,8 @@ pub extern "C" fn dimetumble_a_star(
         weights,
         dist,
         preds,
-        heap,
-        places,
+        peaks,
+        words,
         keys,
     );
     let found = reached.cost;
@@ -218,11 +235,17 @@ pub extern "C" fn dimetumble_dijkstra_path_impl(
     offsets: &mut [usize],
     heads: &mut [u16],
     weights: &mut [u64],
-    heap: &mut [usize],
-    places: &mut [usize],
+    peaks: &mut [usize],
+    words: &mut [usize],
     keys: &mut [u64],
 ) -> usize
-    ensures { λ r. ⌜ dijkstra_path.Promise (netOf64 bound count (isSet directed) (now (marks .entry)) (now (from .entry)) (now (to .entry)) (now (bits .entry)) (now (opens .entry))) source (limitOf capped cutoff) (dijkstra_path.buffersOf (now (dist .entry)) (now (preds .entry)) (now (offsets .entry)) (now (heads .entry)) (now (weights .entry)) (now (heap .entry)) (now (places .entry)) (now (keys .entry))) (dijkstra_path.buffersOf (now (dist .exit)) (now (preds .exit)) (now (offsets .exit)) (now (heads .exit)) (now (weights .exit)) (now (heap .exit)) (now (places .exit)) (now (keys .exit))) r ⌝ }
+    ensures { λ r. ⌜ dijkstra_path.Promise
+        (netOf64 bound count (isSet directed) (now (marks .entry)) (now (from .entry)) (now (to .entry)) (now (bits .entry))
+        (now (opens .entry))) source (limitOf capped cutoff)
+        (dijkstra_path.buffersOf (now (dist .entry)) (now (preds .entry)) (now (offsets .entry)) (now (heads .entry)) (now (weights .entry))
+        (now (peaks .entry)) (now (words .entry)) (now (keys .entry)))
+        (dijkstra_path.buffersOf (now (dist .exit)) (now (preds .exit)) (now (offsets .exit)) (now (heads .exit)) (now (weights .exit))
+        (now (peaks .exit)) (now (words .exit)) (now (keys .exit))) r ⌝ }
 {
     dijkstra_path::dijkstra_path_impl(
         Map {
@@ -242,8 +265,8 @@ pub extern "C" fn dimetumble_dijkstra_path_impl(
         offsets,
         heads,
         weights,
-        heap,
-        places,
+        peaks,
+        words,
         keys,
     )
 }
@@ -267,11 +290,17 @@ pub extern "C" fn dimetumble_dijkstra_path_f64(
     offsets: &mut [usize],
     heads: &mut [u16],
     weights: &mut [u64],
-    heap: &mut [usize],
-    places: &mut [usize],
+    peaks: &mut [usize],
+    words: &mut [usize],
     keys: &mut [u64],
 ) -> usize
-    ensures { λ r. ⌜ dijkstra_path.Promise (netOf64 bound count (isSet directed) (now (marks .entry)) (now (from .entry)) (now (to .entry)) (now (bits .entry)) (now (opens .entry))) source (limitOf capped cutoff) (dijkstra_path.buffersOf (now (dist .entry)) (now (preds .entry)) (now (offsets .entry)) (now (heads .entry)) (now (weights .entry)) (now (heap .entry)) (now (places .entry)) (now (keys .entry))) (dijkstra_path.buffersOf (now (dist .exit)) (now (preds .exit)) (now (offsets .exit)) (now (heads .exit)) (now (weights .exit)) (now (heap .exit)) (now (places .exit)) (now (keys .exit))) r ⌝ }
+    ensures { λ r. ⌜ dijkstra_path.Promise
+        (netOf64 bound count (isSet directed) (now (marks .entry)) (now (from .entry)) (now (to .entry)) (now (bits .entry))
+        (now (opens .entry))) source (limitOf capped cutoff)
+        (dijkstra_path.buffersOf (now (dist .entry)) (now (preds .entry)) (now (offsets .entry)) (now (heads .entry)) (now (weights .entry))
+        (now (peaks .entry)) (now (words .entry)) (now (keys .entry)))
+        (dijkstra_path.buffersOf (now (dist .exit)) (now (preds .exit)) (now (offsets .exit)) (now (heads .exit)) (now (weights .exit))
+        (now (peaks .exit)) (now (words .exit)) (now (keys .exit))) r ⌝ }
 {
     dimetumble_dijkstra_path_impl(
         bound,
@@ -290,8 +319,8 @@ pub extern "C" fn dimetumble_dijkstra_path_f64(
         offsets,
         heads,
         weights,
-        heap,
-        places,
+        peaks,
+        words,
         keys,
     )
 }
@@ -315,7 +344,12 @@ pub extern "C" fn dimetumble_bellman_ford(
     queued: &mut [usize],
     lengths: &mut [usize],
 ) -> usize
-    ensures { λ r. ⌜ bellman_ford.Promise (netOf bound count (isSet directed) (now (marks .entry)) (now (from .entry)) (now (to .entry)) (now (costs .entry))) source (bellman_ford.buffersOf (now (dist .entry)) (now (offsets .entry)) (now (heads .entry)) (now (weights .entry)) (now (queue .entry)) (now (queued .entry)) (now (lengths .entry))) (bellman_ford.buffersOf (now (dist .exit)) (now (offsets .exit)) (now (heads .exit)) (now (weights .exit)) (now (queue .exit)) (now (queued .exit)) (now (lengths .exit))) r ⌝ }
+    ensures { λ r. ⌜ bellman_ford.Promise
+        (netOf bound count (isSet directed) (now (marks .entry)) (now (from .entry)) (now (to .entry)) (now (costs .entry))) source
+        (bellman_ford.buffersOf (now (dist .entry)) (now (offsets .entry)) (now (heads .entry)) (now (weights .entry)) (now (queue .entry))
+        (now (queued .entry)) (now (lengths .entry)))
+        (bellman_ford.buffersOf (now (dist .exit)) (now (offsets .exit)) (now (heads .exit)) (now (weights .exit)) (now (queue .exit))
+        (now (queued .exit)) (now (lengths .exit))) r ⌝ }
 {
     bellman_ford::bellman_ford(
         Map {
@@ -351,7 +385,9 @@ pub extern "C" fn dimetumble_floyd_warshall(
     matrix: &mut [i64],
     ranks: &mut [usize],
 ) -> usize
-    ensures { λ r. ⌜ floyd_warshall.Promise (netOf bound count (isSet directed) (now (marks .entry)) (now (from .entry)) (now (to .entry)) (now (costs .entry))) (now (matrix .entry)) (now (ranks .entry)) (now (matrix .exit)) (now (ranks .exit)) r ⌝ }
+    ensures { λ r. ⌜ floyd_warshall.Promise
+        (netOf bound count (isSet directed) (now (marks .entry)) (now (from .entry)) (now (to .entry)) (now (costs .entry)))
+        (now (matrix .entry)) (now (ranks .entry)) (now (matrix .exit)) (now (ranks .exit)) r ⌝ }
 {
     floyd_warshall::floyd_warshall(
         Map {
@@ -385,11 +421,17 @@ pub extern "C" fn dimetumble_johnson(
     heights: &mut [i64],
     dist: &mut [i64],
     preds: &mut [u32],
-    heap: &mut [usize],
-    places: &mut [usize],
+    peaks: &mut [usize],
+    words: &mut [usize],
     keys: &mut [i64],
 ) -> usize
-    ensures { λ r. ⌜ johnson.Promise (netOf bound count (isSet directed) (now (marks .entry)) (now (from .entry)) (now (to .entry)) (now (costs .entry))) (now (matrix .entry)) (johnson.scratchOf (now (offsets .entry)) (now (heads .entry)) (now (weights .entry)) (now (heights .entry)) (now (dist .entry)) (now (preds .entry)) (now (heap .entry)) (now (places .entry)) (now (keys .entry))) (now (matrix .exit)) (johnson.scratchOf (now (offsets .exit)) (now (heads .exit)) (now (weights .exit)) (now (heights .exit)) (now (dist .exit)) (now (preds .exit)) (now (heap .exit)) (now (places .exit)) (now (keys .exit))) r ⌝ }
+    ensures { λ r. ⌜ johnson.Promise
+        (netOf bound count (isSet directed) (now (marks .entry)) (now (from .entry)) (now (to .entry)) (now (costs .entry)))
+        (now (matrix .entry))
+        (johnson.scratchOf (now (offsets .entry)) (now (heads .entry)) (now (weights .entry)) (now (heights .entry)) (now (dist .entry))
+        (now (preds .entry)) (now (peaks .entry)) (now (words .entry)) (now (keys .entry))) (now (matrix .exit))
+        (johnson.scratchOf (now (offsets .exit)) (now (heads .exit)) (now (weights .exit)) (now (heights .exit)) (now (dist .exit))
+        (now (preds .exit)) (now (peaks .exit)) (now (words .exit)) (now (keys .exit))) r ⌝ }
 {
     johnson::johnson(
         Map {
@@ -408,8 +450,8 @@ pub extern "C" fn dimetumble_johnson(
         heights,
         dist,
         preds,
-        heap,
-        places,
+        peaks,
+        words,
         keys,
     )
 }
@@ -432,7 +474,12 @@ pub extern "C" fn dimetumble_hops(
     labels: &mut [usize],
     queue: &mut [usize],
 ) -> usize
-    ensures { λ r. ⌜ hops.Promise (netOf bound count (isSet directed) (now (marks .entry)) (now (from .entry)) (now (to .entry)) (now (costs .entry))) (hops.buffersOf (now (nodes .entry)) (now (matrix .entry)) (now (offsets .entry)) (now (heads .entry)) (now (labels .entry)) (now (queue .entry))) (hops.buffersOf (now (nodes .exit)) (now (matrix .exit)) (now (offsets .exit)) (now (heads .exit)) (now (labels .exit)) (now (queue .exit))) r (now (listed .exit)) ⌝ }
+    ensures { λ r. ⌜ hops.Promise
+        (netOf bound count (isSet directed) (now (marks .entry)) (now (from .entry)) (now (to .entry)) (now (costs .entry)))
+        (hops.buffersOf (now (nodes .entry)) (now (matrix .entry)) (now (offsets .entry)) (now (heads .entry)) (now (labels .entry))
+        (now (queue .entry)))
+        (hops.buffersOf (now (nodes .exit)) (now (matrix .exit)) (now (offsets .exit)) (now (heads .exit)) (now (labels .exit))
+        (now (queue .exit))) r (now (listed .exit)) ⌝ }
 {
     let counted = hops::hops(
         Map {
@@ -474,7 +521,13 @@ pub extern "C" fn dimetumble_hops_f64(
     labels: &mut [usize],
     queue: &mut [usize],
 ) -> usize
-    ensures { λ r. ⌜ hops.Promise (netOf64 bound count (isSet directed) (now (marks .entry)) (now (from .entry)) (now (to .entry)) (now (bits .entry)) (now (opens .entry))) (hops.buffersOf (now (nodes .entry)) (now (matrix .entry)) (now (offsets .entry)) (now (heads .entry)) (now (labels .entry)) (now (queue .entry))) (hops.buffersOf (now (nodes .exit)) (now (matrix .exit)) (now (offsets .exit)) (now (heads .exit)) (now (labels .exit)) (now (queue .exit))) r (now (listed .exit)) ⌝ }
+    ensures { λ r. ⌜ hops.Promise
+        (netOf64 bound count (isSet directed) (now (marks .entry)) (now (from .entry)) (now (to .entry)) (now (bits .entry))
+        (now (opens .entry)))
+        (hops.buffersOf (now (nodes .entry)) (now (matrix .entry)) (now (offsets .entry)) (now (heads .entry)) (now (labels .entry))
+        (now (queue .entry)))
+        (hops.buffersOf (now (nodes .exit)) (now (matrix .exit)) (now (offsets .exit)) (now (heads .exit)) (now (labels .exit))
+        (now (queue .exit))) r (now (listed .exit)) ⌝ }
 {
     let counted = hops::hops_f64(
         Map {
@@ -512,7 +565,11 @@ pub extern "C" fn dimetumble_page(
     page: &[i64],
     yes: &mut u8,
 ) -> usize
-    ensures { λ r. ⌜ (page_check.Promise (netOf bound count (isSet directed) (now (marks .entry)) (now (from .entry)) (now (to .entry)) (now (costs .entry))) source (now (page .entry)) (page_check.answerOf r (isSet (now (yes .exit))))) × (now (yes .exit) ≤ 1) ⌝ }
+    ensures { λ r. ⌜ (page_check.Promise
+        (netOf bound count (isSet directed) (now (marks .entry)) (now (from .entry)) (now (to .entry)) (now (costs .entry))) source
+        (now (page .entry))
+        (page_check.answerOf r (isSet (now (yes .exit)))))
+        × (now (yes .exit) ≤ 1) ⌝ }
 {
     let checked = page::check(
         Map {

@@ -6,7 +6,8 @@
 use mathlib.Core.Path.{_≡_, refl, sym, ap, ap₂, _∙_, subst}
 use mathlib.Core.Logic.{_⊎_, inl, inr}
 use Prim.Native.Nat.{ℕ, suc, _+_, _-_, _*_, _/_, _^_, _≤_, _<_, zero-le}
-use native.Mathlib.Nat.{le-trans, le-of-eq, le-of-lt, lt-irrefl, lt-of-lt-of-le, lt-of-le-of-lt, eq-or-lt-of-le, zero-add, one-mul, mul-assoc, mul-le-mul-right, mul-div-cancel, lt-of-mul-lt-mul-right, le-div-iff-mul-le, pow-succ', suc-mul}
+use native.Mathlib.Nat.{le-trans, le-of-eq, le-of-lt, lt-irrefl, lt-of-lt-of-le, lt-of-le-of-lt, eq-or-lt-of-le, zero-add, one-mul}
+use native.Mathlib.Nat.{mul-assoc, mul-le-mul-right, mul-div-cancel, lt-of-mul-lt-mul-right, le-div-iff-mul-le, pow-succ', suc-mul}
 use native.Mathlib.Omega.{arith}
 use mathlib.Core.Bool.{Bool, true, false, not}
 use lib.Dec.{T, ltb, ltb→lt, lt→ltb, nltb→le, lit<}
@@ -106,7 +107,8 @@ pub bits-mono : (f : Format) (x y : Float) → Dist f x → Dist f y → rank f 
 bits-mono f x y p q h =
     let X = shape x (p .is-clear) in
     let Y = shape y (q .is-clear) in
-    lt-of-le-of-lt (le-of-eq (bits-of f X)) (lt-of-lt-of-le (enc-mono (prec f) (rank f x) (rank f y) (two-le-pos (prec f) (two f)) (rank-short f X (p .is-held)) (rank-short f Y (q .is-held)) h) (le-of-eq (sym (bits-of f Y))))
+    lt-of-le-of-lt (le-of-eq (bits-of f X))
+    (lt-of-lt-of-le (enc-mono (prec f) (rank f x) (rank f y) (two-le-pos (prec f) (two f)) (rank-short f X (p .is-held)) (rank-short f Y (q .is-held)) h) (le-of-eq (sym (bits-of f Y))))
 
 -- `x < y` of two distances is `<` of their bits
 pub lt-bits : (f : Format) (x y : Float) → Dist f x → Dist f y → lt x y ≡ ltb (toBits f x) (toBits f y)

@@ -42,7 +42,8 @@ unfolding ofFields
 fields-clear f zero t e = odd-clear (prec f) t 0 (low f)
 fields-clear f (suc x) t e = go (eqb (suc x) (ones f)) (eqb t 0) e
   where
-    go : (p q : Bool) → isNan (cond p (cond q (inf false) nan) (odd (prec f) false (hid f + t) x (low f))) ≡ false → T (clear (cond p (cond q (inf false) nan) (odd (prec f) false (hid f + t) x (low f))))
+    go : (p q : Bool) → isNan (cond p (cond q (inf false) nan) (odd (prec f) false (hid f + t) x (low f))) ≡ false
+        → T (clear (cond p (cond q (inf false) nan) (odd (prec f) false (hid f + t) x (low f))))
     go true true e = tt
     go true false e = absurd (nan-is e)
     go false q e = odd-clear (prec f) (hid f + t) x (low f)
@@ -96,7 +97,8 @@ clear-no-nan (fin s m e) p = refl
 pub dist-good : (f : Format) (x : Float) → Dist f x → badCost f (toBits f x) ≡ false
 unfolding badCost
 dist-good f x p =
-    ap (λ (b : Bool). b || isNan (ofBits f (toBits f x))) (is-false (leb (top f) (toBits f x)) (not-T (leb (top f) (toBits f x)) (λ t. lt-irrefl (top f) (lt-of-le-of-lt (leb→le (top f) (toBits f x) t) (dist-bits f x p)))))
+    ap (λ (b : Bool). b || isNan (ofBits f (toBits f x)))
+    (is-false (leb (top f) (toBits f x)) (not-T (leb (top f) (toBits f x)) (λ t. lt-irrefl (top f) (lt-of-le-of-lt (leb→le (top f) (toBits f x) t) (dist-bits f x p)))))
     ∙ ap isNan (ofBits-toBits f x (p .is-held)) ∙ clear-no-nan x (p .is-clear)
 
 -- ---- patterns that can be a distance: each is the pattern of its value
@@ -137,4 +139,6 @@ module _ (d b : ℕ) (p : Dist64 d) (g : Dist64 b) where
   unfolding lt64
   plus-grows =
       ap (λ (z : Float). lt z (ofBits binary64 d)) (plus-value d b)
-      ∙ not-t _ (sym (le-not-lt (ofBits binary64 d) (add binary64 (ofBits binary64 d) (ofBits binary64 b)) (dist-value d p .is-clear) (sum-dist .is-clear)) ∙ is-true _ (add-grows binary64 (ofBits binary64 d) (ofBits binary64 b) (dist-value d p) (dist-value b g .is-clear)))
+      ∙ not-t _
+      (sym (le-not-lt (ofBits binary64 d) (add binary64 (ofBits binary64 d) (ofBits binary64 b)) (dist-value d p .is-clear) (sum-dist .is-clear))
+      ∙ is-true _ (add-grows binary64 (ofBits binary64 d) (ofBits binary64 b) (dist-value d p) (dist-value b g .is-clear)))

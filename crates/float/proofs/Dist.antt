@@ -4,7 +4,9 @@
 use mathlib.Core.Path.{_≡_, refl, sym, ap, _∙_, subst}
 use mathlib.Core.Logic.{_⊎_, inl, inr}
 use Prim.Native.Nat.{ℕ, zero, suc, _+_, _-_, _*_, _/_, _%_, _^_, _≤_, _<_}
-use native.Mathlib.Nat.{le-refl, le-trans, le-of-eq, le-of-lt, le-antisymm, lt-irrefl, lt-of-lt-of-le, lt-of-le-of-lt, lt-of-not-le, zero-mul, one-mul, mul-one, mul-comm, mul-assoc, mul-left-comm, mul-right-comm, mul-mul-mul-comm, mul-pos, mul-le-mul-right, mul-lt-mul-of-pos-right, lt-of-mul-lt-mul-right, mul-div-cancel, le-add-right, add-mul, zero-lt-suc, le-of-suc-le-suc, eq-or-lt-of-le}
+use native.Mathlib.Nat.{le-refl, le-trans, le-of-eq, le-of-lt, le-antisymm, lt-irrefl, lt-of-lt-of-le, lt-of-le-of-lt, lt-of-not-le, zero-mul}
+use native.Mathlib.Nat.{one-mul, mul-one, mul-comm, mul-assoc, mul-left-comm, mul-right-comm, mul-mul-mul-comm, mul-pos, mul-le-mul-right}
+use native.Mathlib.Nat.{mul-lt-mul-of-pos-right, lt-of-mul-lt-mul-right, mul-div-cancel, le-add-right, add-mul, zero-lt-suc, le-of-suc-le-suc, eq-or-lt-of-le}
 use native.Mathlib.Omega.{arith}
 use mathlib.Core.Bool.{Bool, true, false, not, _&&_, _||_, cond, true≢false}
 use lib.IntN.{ℤ, pos, negsuc}
@@ -118,8 +120,10 @@ scaled-test p q r s k l K L a b =
 pub cross-test : (x y de dd a b c d : ℕ) → 0 < c → 0 < d → 0 < de → 0 < dd → x * c ≡ a * de → y * d ≡ b * dd → ltb (x * dd) (y * de) ≡ ltb (a * d) (b * c)
 cross-test x y de dd a b c d C D E F p q =
     scaled-test (x * dd) (y * de) (a * d) (b * c) (c * d) (de * dd) (mul-pos C D) (mul-pos E F)
-    (mul-mul-mul-comm x dd c d ∙ ap (λ (z : ℕ). z * (dd * d)) p ∙ mul-mul-mul-comm a de dd d ∙ ap (λ (z : ℕ). a * dd * z) (mul-comm de d) ∙ mul-mul-mul-comm a dd d de ∙ ap (λ (z : ℕ). a * d * z) (mul-comm dd de))
-    (ap (λ (z : ℕ). y * de * z) (mul-comm c d) ∙ mul-mul-mul-comm y de d c ∙ ap (λ (z : ℕ). z * (de * c)) q ∙ mul-mul-mul-comm b dd de c ∙ ap (λ (z : ℕ). b * de * z) (mul-comm dd c) ∙ mul-mul-mul-comm b de c dd)
+    (mul-mul-mul-comm x dd c d ∙ ap (λ (z : ℕ). z * (dd * d)) p ∙ mul-mul-mul-comm a de dd d ∙ ap (λ (z : ℕ). a * dd * z) (mul-comm de d) ∙ mul-mul-mul-comm a dd d de
+    ∙ ap (λ (z : ℕ). a * d * z) (mul-comm dd de))
+    (ap (λ (z : ℕ). y * de * z) (mul-comm c d) ∙ mul-mul-mul-comm y de d c ∙ ap (λ (z : ℕ). z * (de * c)) q ∙ mul-mul-mul-comm b dd de c ∙ ap (λ (z : ℕ). b * de * z) (mul-comm dd c)
+    ∙ mul-mul-mul-comm b de c dd)
 
 -- ---- the order is that of the ranks
 pub lt-rank : (f : Format) (x y : Float) → Dist f x → Dist f y → lt x y ≡ ltb (rank f x) (rank f y)
@@ -233,7 +237,8 @@ lt-or f x y p q = go (three (rank f x) (rank f y))
 
 pub le-next : (f : Format) (x y z : Float) → Dist f x → Dist f y → Dist f z → T (le x y) → T (le y z) → T (le x z)
 le-next f x y z p q r h k =
-    subst T (sym (le-rank f x z p r)) (le→leb (rank f x) (rank f z) (le-trans (leb→le (rank f x) (rank f y) (subst T (le-rank f x y p q) h)) (leb→le (rank f y) (rank f z) (subst T (le-rank f y z q r) k))))
+    subst T (sym (le-rank f x z p r))
+    (le→leb (rank f x) (rank f z) (le-trans (leb→le (rank f x) (rank f y) (subst T (le-rank f x y p q) h)) (leb→le (rank f y) (rank f z) (subst T (le-rank f y z q r) k))))
 
 -- ---- what is rounded with a clear sign is such a value
 pub odd-clear : (d q k l : ℕ) → T (clear (odd d false q k l))
@@ -279,7 +284,8 @@ eq-same f (fin false m e) nan p q h = absurd (q .is-clear)
 eq-same f (fin false m e) (inf t) p q h = absurd (true≢false (sym h))
 eq-same f (fin false m e) (fin true n d) p q h = absurd (q .is-clear)
 eq-same f (fin false m e) (fin false n d) p q h =
-    rank-inj f (fin false m e) (fin false n d) p q (rank-same f m e n d (eqb→eq (m * up e * down d) (n * up d * down e) (and-l (eqb (m * up e * down d) (n * up d * down e)) true (subst T (sym h) tt))))
+    rank-inj f (fin false m e) (fin false n d) p q
+    (rank-same f m e n d (eqb→eq (m * up e * down d) (n * up d * down e) (and-l (eqb (m * up e * down d) (n * up d * down e)) true (subst T (sym h) tt))))
 
 value-rank : (f : Format) (x : Float) (n : ℕ) (d : ℤ) → HasValue x false (n * up d) (down d) → rank f x ≡ rank f (fin false n d)
 value-rank f nan n d h = absurd h

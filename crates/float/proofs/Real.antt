@@ -4,7 +4,7 @@
 -- that the other cuts.
 -- Assumes nothing.
 use mathlib.Core.Path.{_≡_, refl, sym, ap, _∙_, subst}
-use Prim.Native.Nat.{ℕ, zero, suc, _+_, _*_, _^_, _≤_, _<_, zero-le}
+use Prim.Native.Nat.{ℕ, zero, suc, _+_, _*_, _^_, _<_, zero-le}
 use native.Mathlib.Nat.{le-refl, le-of-lt, lt-of-lt-of-le, zero-lt-suc, add-mul, zero-mul, mul-pos, mul-comm, mul-assoc, mul-right-comm, le-add-right, le-add-left, zero-add}
 use mathlib.Core.Bool.{Bool, true, false, not, true≢false}
 use lib.IntN.{ℤ, pos, negℤ}
@@ -59,10 +59,13 @@ under f s m e t = rank-under f false m e (fits-clear f s m e t)
 val : (f : Format) (s : Bool) (m : ℕ) (e : ℤ) → T (fits f (fin s m e)) → m * up e * 2 ^ low f ≡ rank f (fin false m e) * down e
 val f s m e t = rank-val f false m e (fits-clear f s m e t)
 
-units-test : (f : Format) (s t : Bool) (m : ℕ) (e : ℤ) (n : ℕ) (d : ℤ) → T (fits f (fin s m e)) → T (fits f (fin t n d)) → ltb (m * up e * down d) (n * up d * down e) ≡ ltb (rank f (fin false m e)) (rank f (fin false n d))
-units-test f s t m e n d p q = unfold lt in lt-rank f (fin false m e) (fin false n d) (record { is-clear = tt; is-held = fits-clear f s m e p }) (record { is-clear = tt; is-held = fits-clear f t n d q })
+units-test : (f : Format) (s t : Bool) (m : ℕ) (e : ℤ) (n : ℕ) (d : ℤ) → T (fits f (fin s m e)) → T (fits f (fin t n d))
+    → ltb (m * up e * down d) (n * up d * down e) ≡ ltb (rank f (fin false m e)) (rank f (fin false n d))
+units-test f s t m e n d p q =
+    unfold lt in lt-rank f (fin false m e) (fin false n d) (record { is-clear = tt; is-held = fits-clear f s m e p }) (record { is-clear = tt; is-held = fits-clear f t n d q })
 
-sum-test : (f : Format) (s t : Bool) (m : ℕ) (e : ℤ) (n : ℕ) (d : ℤ) → T (fits f (fin s m e)) → T (fits f (fin t n d)) → ltb 0 (m * up e * down d + n * up d * down e) ≡ ltb 0 (rank f (fin false m e) + rank f (fin false n d))
+sum-test : (f : Format) (s t : Bool) (m : ℕ) (e : ℤ) (n : ℕ) (d : ℤ) → T (fits f (fin s m e)) → T (fits f (fin t n d))
+    → ltb 0 (m * up e * down d + n * up d * down e) ≡ ltb 0 (rank f (fin false m e) + rank f (fin false n d))
 sum-test f s t m e n d p q =
     let L = 2 ^ low f in
     let r = rank f (fin false m e) in
@@ -71,7 +74,8 @@ sum-test f s t m e n d p q =
     (zero-mul L ∙ sym (zero-mul (down e * down d)))
     (add-mul (m * up e * down d) (n * up d * down e) L
     ∙ ap (λ (z : ℕ). z + n * up d * down e * L) (mul-right-comm (m * up e) (down d) L ∙ ap (λ (z : ℕ). z * down d) (val f s m e p) ∙ mul-assoc r (down e) (down d))
-    ∙ ap (λ (z : ℕ). r * (down e * down d) + z) (mul-right-comm (n * up d) (down e) L ∙ ap (λ (z : ℕ). z * down e) (val f t n d q) ∙ mul-assoc k (down d) (down e) ∙ ap (λ (z : ℕ). k * z) (mul-comm (down d) (down e)))
+    ∙ ap (λ (z : ℕ). r * (down e * down d) + z)
+    (mul-right-comm (n * up d) (down e) L ∙ ap (λ (z : ℕ). z * down e) (val f t n d q) ∙ mul-assoc k (down d) (down e) ∙ ap (λ (z : ℕ). k * z) (mul-comm (down d) (down e)))
     ∙ sym (add-mul r k (down e * down d)))
 
 pub lt-real : (f : Format) (x y : Float) → Real f x → Real f y → lt x y ≡ ltZ (srank f x) (srank f y)
@@ -85,11 +89,13 @@ lt-real f (inf true) (inf false) p q = ltb-yes 0 (overflow f + overflow f) (lt-o
 lt-real f (inf true) (inf true) p q = ltb-no (overflow f) (overflow f) (le-refl (overflow f)) ∙ sym (neg-neg (overflow f) (overflow f))
 lt-real f (inf false) (fin false n d) p q = ltb-no (overflow f) (rank f (fin false n d)) (le-of-lt (under f false n d (q .held)))
 lt-real f (inf false) (fin true n d) p q = pos-neg (overflow f) (rank f (fin false n d))
-lt-real f (inf true) (fin false n d) p q = ltb-yes 0 (overflow f + rank f (fin false n d)) (lt-of-lt-of-le (over-pos f) (le-add-right (overflow f) (rank f (fin false n d)))) ∙ sym (neg-pos (overflow f) (rank f (fin false n d)))
+lt-real f (inf true) (fin false n d) p q =
+    ltb-yes 0 (overflow f + rank f (fin false n d)) (lt-of-lt-of-le (over-pos f) (le-add-right (overflow f) (rank f (fin false n d)))) ∙ sym (neg-pos (overflow f) (rank f (fin false n d)))
 lt-real f (inf true) (fin true n d) p q = ltb-yes (rank f (fin false n d)) (overflow f) (under f true n d (q .held)) ∙ sym (neg-neg (overflow f) (rank f (fin false n d)))
 lt-real f (fin false m e) (inf false) p q = ltb-yes (rank f (fin false m e)) (overflow f) (under f false m e (p .held))
 lt-real f (fin false m e) (inf true) p q = pos-neg (rank f (fin false m e)) (overflow f)
-lt-real f (fin true m e) (inf false) p q = ltb-yes 0 (rank f (fin false m e) + overflow f) (lt-of-lt-of-le (over-pos f) (le-add-left (overflow f) (rank f (fin false m e)))) ∙ sym (neg-pos (rank f (fin false m e)) (overflow f))
+lt-real f (fin true m e) (inf false) p q =
+    ltb-yes 0 (rank f (fin false m e) + overflow f) (lt-of-lt-of-le (over-pos f) (le-add-left (overflow f) (rank f (fin false m e)))) ∙ sym (neg-pos (rank f (fin false m e)) (overflow f))
 lt-real f (fin true m e) (inf true) p q = ltb-no (overflow f) (rank f (fin false m e)) (le-of-lt (under f true m e (p .held))) ∙ sym (neg-neg (rank f (fin false m e)) (overflow f))
 lt-real f (fin false m e) (fin false n d) p q = units-test f false false m e n d (p .held) (q .held)
 lt-real f (fin false m e) (fin true n d) p q = pos-neg (rank f (fin false m e)) (rank f (fin false n d))

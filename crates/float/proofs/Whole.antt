@@ -30,7 +30,8 @@ add-at f (fin false m e) (fin false n g) a c b d C D p q =
     ∙ round-same f false (m * up e * down g + n * up g * down e) (down e * down g) (a * d + b * c) (c * d) (mul-pos (down-pos e) (down-pos g)) (mul-pos C D)
     (add-mul (m * up e * down g) (n * up g * down e) (c * d)
     ∙ ap (λ (z : ℕ). z + n * up g * down e * (c * d)) (mul-mul-mul-comm (m * up e) (down g) c d ∙ ap (λ (z : ℕ). z * (down g * d)) (p .1) ∙ turn a (down e) (down g) d)
-    ∙ ap (λ (z : ℕ). a * d * (down e * down g) + z) (ap (λ (z : ℕ). n * up g * down e * z) (mul-comm c d) ∙ mul-mul-mul-comm (n * up g) (down e) d c ∙ ap (λ (z : ℕ). z * (down e * c)) (q .1) ∙ turn' b (down g) (down e) c)
+    ∙ ap (λ (z : ℕ). a * d * (down e * down g) + z)
+    (ap (λ (z : ℕ). n * up g * down e * z) (mul-comm c d) ∙ mul-mul-mul-comm (n * up g) (down e) d c ∙ ap (λ (z : ℕ). z * (down e * c)) (q .1) ∙ turn' b (down g) (down e) c)
     ∙ sym (add-mul (a * d) (b * c) (down e * down g)))
   where
     turn : (a x y d : ℕ) → a * x * (y * d) ≡ a * d * (x * y)

@@ -1,4 +1,5 @@
-// f64 costs and distances, both as patterns of 64 bits: what one arc of a search does with them. A float stands in sums and comparisons alone.
+// f64 costs and distances, both as patterns of 64 bits:
+// what one arc of a search does with them. A float stands in sums and comparisons alone.
 ghost use mathlib.Core.Path.{_≡_};
 ghost use mathlib.Core.Bool.{cond};
 ghost use lib.Ieee.{binary64};

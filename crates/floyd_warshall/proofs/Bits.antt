@@ -11,7 +11,8 @@ use Rattle.whole.specs.Zed.{_⊕_}
 use Rattle.floyd_warshall.specs.Rounds.{lesser}
 use Rattle.floyd_warshall.specs.Filling.{shown}
 
-pub read-shorter : (old a b z : ℤ) → SFits w64 old → SFits w64 a → SFits w64 b → SFits w64 z → z ≡ lesser (toZ w64 (ofZ w64 old)) (toZ w64 (ofZ w64 a) ⊕ toZ w64 (ofZ w64 b)) → toZ w64 (ofZ w64 z) ≡ lesser old (a ⊕ b)
+pub read-shorter : (old a b z : ℤ) → SFits w64 old → SFits w64 a → SFits w64 b → SFits w64 z → z ≡ lesser (toZ w64 (ofZ w64 old)) (toZ w64 (ofZ w64 a) ⊕ toZ w64 (ofZ w64 b))
+    → toZ w64 (ofZ w64 z) ≡ lesser old (a ⊕ b)
 read-shorter old a b z f g h k e = toZ-ofZ w64 z k ∙ (e ∙ (λ t. lesser (toZ-ofZ w64 old f t) (toZ-ofZ w64 a g t ⊕ toZ-ofZ w64 b h t)))
 
 pub read-below : (a : ℤ) (t : Bool) → SFits w64 a → t ≡ ltZ (toZ w64 (ofZ w64 a)) (pos 0) → t ≡ ltZ a (pos 0)

@@ -65,7 +65,8 @@ module _ (m n : ℕ) (d : Bool) (marks xs ys : List ℕ) (cs : List ℤ) (ranks 
   within-all : (ls : List (Link ℤ)) → allInside m marks ls ≡ true → RowsBelow d (width g) ranks ls
   unfolding presentBoth
   within-all [] e = tt
-  within-all (x ∷ ls) e = let k = and-left (inside m marks x) _ e in (row-in _ (and-left (present m marks (x .a)) _ k), row-in _ (and-right (present m marks (x .a)) _ k), within-all ls (and-right (inside m marks x) _ e))
+  within-all (x ∷ ls) e =
+      let k = and-left (inside m marks x) _ e in (row-in _ (and-left (present m marks (x .a)) _ k), row-in _ (and-right (present m marks (x .a)) _ k), within-all ls (and-right (inside m marks x) _ e))
 
   pub few : width g ≤ 1024
   few = width-small (whole-ints m n d marks xs ys cs (S .whole))
@@ -94,7 +95,8 @@ module _ (m n : ℕ) (d : Bool) (marks xs ys : List ℕ) (cs : List ℤ) (ranks 
       filled-size = poured-size d (width g) ranks (links n xs ys cs) l in-all (T .square .size)
 
       -- an entry is 0 on the diagonal, or 2^50, or the cost of an arc
-      origin : (i j : ℕ) → i < width g → j < width g → (((i ≡ j) × (cell (width g) l′ i j ≡ pos 0)) ⊎ (cell (width g) l′ i j ≡ pos (2 ^ 50))) ⊎ ArcIn d (width g) ranks (links n xs ys cs) i j (cell (width g) l′ i j)
+      origin : (i j : ℕ) → i < width g → j < width g
+          → (((i ≡ j) × (cell (width g) l′ i j ≡ pos 0)) ⊎ (cell (width g) l′ i j ≡ pos (2 ^ 50))) ⊎ ArcIn d (width g) ranks (links n xs ys cs) i j (cell (width g) l′ i j)
       origin i j h k = ⊎-elim (λ e. inl (go (ℕ-discrete i j) e)) inr (poured-new d (width g) ranks (links n xs ys cs) l in-all (T .square .size) i j k)
         where
           go : Dec (i ≡ j) → cell (width g) l′ i j ≡ cell (width g) l i j → ((i ≡ j) × (cell (width g) l′ i j ≡ pos 0)) ⊎ (cell (width g) l′ i j ≡ pos (2 ^ 50))
@@ -110,7 +112,10 @@ module _ (m n : ℕ) (d : Bool) (marks xs ys : List ℕ) (cs : List ℤ) (ranks 
       pub matrix-filled : Filled (ArcOf g) (nodesOf g) (cell (width g) l′)
       matrix-filled =
           record {
-            diag = λ i h. let e : cell (width g) l i i ≡ pos 0 = T .zero i h in let f : cell (width g) l′ i i ≤ℤ cell (width g) l i i = poured-le d (width g) ranks (links n xs ys cs) l in-all (T .square .size) i i h in omega (arith, zed);
+            diag = λ i h.
+                let e : cell (width g) l i i ≡ pos 0 = T .zero i h in
+                let f : cell (width g) l′ i i ≤ℤ cell (width g) l i i = poured-le d (width g) ranks (links n xs ys cs) l in-all (T .square .size) i i h in
+                omega (arith, zed);
             low = low;
             real = λ i j h k. ⊎-elim (⊎-elim (λ e. inr (still i j (e .0) (e .1))) (λ e. inl e)) (λ a. inr (arc (arc-of i j a))) (origin i j h k);
           }
@@ -122,10 +127,14 @@ module _ (m n : ℕ) (d : Bool) (marks xs ys : List ℕ) (cs : List ℤ) (ranks 
           low i j v c h k e a =
               let r : getD ranks v 0 ≡ j = ap (λ (x : ℕ). getD ranks x 0) (sym e) ∙ of-row j k in
               let s : getD ranks (getD (nodesOf g) i 0) 0 ≡ i = of-row i h in
-              subst (λ (x : ℕ). cell (width g) l′ i x ≤ℤ c) r (subst (λ (x : ℕ). cell (width g) l′ x (getD ranks v 0) ≤ℤ c) s (poured-low d (width g) ranks (links n xs ys cs) l in-all (T .square .size) (getD (nodesOf g) i 0) v c (omega (arith, r)) a))
+              subst (λ (x : ℕ). cell (width g) l′ i x ≤ℤ c) r
+              (subst (λ (x : ℕ). cell (width g) l′ x (getD ranks v 0) ≤ℤ c) s
+              (poured-low d (width g) ranks (links n xs ys cs) l in-all (T .square .size) (getD (nodesOf g) i 0) v c (omega (arith, r)) a))
 
       pub begun : ((i : ℕ) → i < width g → pos 0 ≤ℤ cell (width g) l′ i i) → Begun (width g) l′
       begun up = record { few = few; size = filled-size; near = near; up = up }
         where
           near : (i j : ℕ) → i < width g → j < width g → Within (2 ^ 50) (cell (width g) l′ i j)
-          near i j h k = ⊎-elim (⊎-elim (λ e. rw (e .1) (omega arith)) (λ e. rw e (omega arith))) (λ a. let b = arc-fits d n xs ys cs F (a .u) (a .v) (cell (width g) l′ i j) (a .arc) in omega arith) (origin i j h k)
+          near i j h k =
+              ⊎-elim (⊎-elim (λ e. rw (e .1) (omega arith)) (λ e. rw e (omega arith))) (λ a. let b = arc-fits d n xs ys cs F (a .u) (a .v) (cell (width g) l′ i j) (a .arc) in omega arith)
+              (origin i j h k)

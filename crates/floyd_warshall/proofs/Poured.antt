@@ -25,7 +25,8 @@ use Rattle.floyd_warshall.proofs.Cells.{cell-same, cell-row, cell-colum
 
 -- ---- the links of a lent table
 -- the one at place e, and those after it
-next-suc : (n e : ℕ) (xs ys : List ℕ) (cs : List ℤ) → e < n → n ≤ length xs → n ≤ length ys → n ≤ length cs → drop e (links n xs ys cs) ≡ linkOf (getD xs e 0) (getD ys e 0) (getD cs e (pos 0)) ∷ drop (suc e) (links n xs ys cs)
+next-suc : (n e : ℕ) (xs ys : List ℕ) (cs : List ℤ) → e < n → n ≤ length xs → n ≤ length ys → n ≤ length cs
+    → drop e (links n xs ys cs) ≡ linkOf (getD xs e 0) (getD ys e 0) (getD cs e (pos 0)) ∷ drop (suc e) (links n xs ys cs)
 next-suc zero e xs ys cs h a b c = absurd (not-suc-le-zero h)
 next-suc (suc n) e [] ys cs h a b c = absurd (not-suc-le-zero a)
 next-suc (suc n) e (x ∷ xs) [] cs h a b c = absurd (not-suc-le-zero b)
@@ -33,7 +34,8 @@ next-suc (suc n) e (x ∷ xs) (y ∷ ys) [] h a b c = absurd (not-suc-le-zero c)
 next-suc (suc n) zero (x ∷ xs) (y ∷ ys) (z ∷ cs) h a b c = refl
 next-suc (suc n) (suc e) (x ∷ xs) (y ∷ ys) (z ∷ cs) h a b c = next-suc n e xs ys cs (le-of-suc-le-suc h) (le-of-suc-le-suc a) (le-of-suc-le-suc b) (le-of-suc-le-suc c)
 
-pub next-link : (n e : ℕ) (xs ys : List ℕ) (cs : List ℤ) → e < n → n ≤ length xs → n ≤ length ys → n ≤ length cs → drop e (links n xs ys cs) ≡ linkOf (getD xs e 0) (getD ys e 0) (getD cs e (pos 0)) ∷ drop (e + 1) (links n xs ys cs)
+pub next-link : (n e : ℕ) (xs ys : List ℕ) (cs : List ℤ) → e < n → n ≤ length xs → n ≤ length ys → n ≤ length cs
+    → drop e (links n xs ys cs) ≡ linkOf (getD xs e 0) (getD ys e 0) (getD cs e (pos 0)) ∷ drop (e + 1) (links n xs ys cs)
 next-link n e xs ys cs h a b c = rw (add-one e) (next-suc n e xs ys cs h a b c)
 
 -- none is left after the last
@@ -45,14 +47,16 @@ no-link (suc n) (x ∷ xs) (y ∷ ys) [] = refl
 no-link (suc n) (x ∷ xs) (y ∷ ys) (z ∷ cs) = no-link n xs ys cs
 
 -- where all are inside, the ends of each are present
-pub ends-present : (m n e : ℕ) (marks xs ys : List ℕ) (cs : List ℤ) → e < n → n ≤ length xs → n ≤ length ys → n ≤ length cs → allInside m marks (links n xs ys cs) ≡ true → (present m marks (getD xs e 0) ≡ true) × (present m marks (getD ys e 0) ≡ true)
+pub ends-present : (m n e : ℕ) (marks xs ys : List ℕ) (cs : List ℤ) → e < n → n ≤ length xs → n ≤ length ys → n ≤ length cs → allInside m marks (links n xs ys cs) ≡ true
+    → (present m marks (getD xs e 0) ≡ true) × (present m marks (getD ys e 0) ≡ true)
 unfolding presentBoth
 ends-present m zero e marks xs ys cs h a b c i = absurd (not-suc-le-zero h)
 ends-present m (suc n) e marks [] ys cs h a b c i = absurd (not-suc-le-zero a)
 ends-present m (suc n) e marks (x ∷ xs) [] cs h a b c i = absurd (not-suc-le-zero b)
 ends-present m (suc n) e marks (x ∷ xs) (y ∷ ys) [] h a b c i = absurd (not-suc-le-zero c)
 ends-present m (suc n) zero marks (x ∷ xs) (y ∷ ys) (z ∷ cs) h a b c i = let k = and-left (inside m marks (linkOf x y z)) _ i in (and-left (present m marks x) _ k, and-right (present m marks x) _ k)
-ends-present m (suc n) (suc e) marks (x ∷ xs) (y ∷ ys) (z ∷ cs) h a b c i = ends-present m n e marks xs ys cs (le-of-suc-le-suc h) (le-of-suc-le-suc a) (le-of-suc-le-suc b) (le-of-suc-le-suc c) (and-right (inside m marks (linkOf x y z)) _ i)
+ends-present m (suc n) (suc e) marks (x ∷ xs) (y ∷ ys) (z ∷ cs) h a b c i =
+    ends-present m n e marks xs ys cs (le-of-suc-le-suc h) (le-of-suc-le-suc a) (le-of-suc-le-suc b) (le-of-suc-le-suc c) (and-right (inside m marks (linkOf x y z)) _ i)
 
 -- the cost of an arc is one of the first n
 pub arc-fits : (d : Bool) (n : ℕ) (xs ys : List ℕ) (cs : List ℤ) → Costs32Below cs n → Costs32 (Arc d (links n xs ys cs))
@@ -74,8 +78,10 @@ module _ (p : ℕ) (l : List ℤ) (i j : ℕ) (c : ℤ) (s : length l ≡ p * p)
   unfolding lowered
   lowered-or u v k = go (ℕ-discrete u i) (ℕ-discrete v j)
     where
-      go : Dec (u ≡ i) → Dec (v ≡ j) → (cell p (set l (i * p + j) (lesser (cell p l i j) c)) u v ≡ cell p l u v) ⊎ ((u ≡ i) × (v ≡ j) × (cell p (set l (i * p + j) (lesser (cell p l i j) c)) u v ≡ lesser (cell p l u v) c))
-      go (yes e) (yes f) = inr (e, f, (λ t. cell p (set l (i * p + j) (lesser (cell p l i j) c)) (e t) (f t)) ∙ (cell-same p l i j (lesser (cell p l i j) c) s hi hj ∙ sym (λ t. lesser (cell p l (e t) (f t)) c)))
+      go : Dec (u ≡ i) → Dec (v ≡ j)
+          → (cell p (set l (i * p + j) (lesser (cell p l i j) c)) u v ≡ cell p l u v) ⊎ ((u ≡ i) × (v ≡ j) × (cell p (set l (i * p + j) (lesser (cell p l i j) c)) u v ≡ lesser (cell p l u v) c))
+      go (yes e) (yes f) =
+          inr (e, f, (λ t. cell p (set l (i * p + j) (lesser (cell p l i j) c)) (e t) (f t)) ∙ (cell-same p l i j (lesser (cell p l i j) c) s hi hj ∙ sym (λ t. lesser (cell p l (e t) (f t)) c)))
       go (yes e) (no f) = inl (ap (λ (x : ℕ). cell p (set l (i * p + j) (lesser (cell p l i j) c)) x v) e ∙ (cell-column p l i j v (lesser (cell p l i j) c) f ∙ ap (λ (x : ℕ). cell p l x v) (sym e)))
       go (no e) f = inl (cell-row p l i j u v (lesser (cell p l i j) c) hj k e)
 
@@ -107,7 +113,8 @@ module _ (p : ℕ) (l : List ℤ) (i j : ℕ) (c : ℤ) (s : length l ≡ p * p)
   linked-le true u v k = lowered-le p l i j c s hi hj u v k
   linked-le false u v k =
       let a : cell p (lowered l (i * p + j) c) u v ≤ℤ cell p l u v = lowered-le p l i j c s hi hj u v k in
-      let b : cell p (lowered (lowered l (i * p + j) c) (j * p + i) c) u v ≤ℤ cell p (lowered l (i * p + j) c) u v = lowered-le p (lowered l (i * p + j) c) j i c (lowered-size p l i j c s hi hj) hj hi u v k in
+      let b : cell p (lowered (lowered l (i * p + j) c) (j * p + i) c) u v ≤ℤ cell p (lowered l (i * p + j) c) u v =
+      lowered-le p (lowered l (i * p + j) c) j i c (lowered-size p l i j c s hi hj) hj hi u v k in
       omega (arith, zed)
 
   linked-at : (d : Bool) (u v : ℕ) → Ends d i j u v → cell p (linked d p l i j c) u v ≤ℤ c
@@ -116,7 +123,8 @@ module _ (p : ℕ) (l : List ℤ) (i j : ℕ) (c : ℤ) (s : length l ≡ p * p)
   linked-at true u v (inr e) = absurd (let z : _≡_ {A = ℕ} 0 1 = let y = e .0 in cc in omega arith)
   linked-at false u v (inl e) =
       let a : cell p (lowered l (i * p + j) c) i j ≤ℤ c = lowered-at p l i j c s hi hj in
-      let b : cell p (lowered (lowered l (i * p + j) c) (j * p + i) c) i j ≤ℤ cell p (lowered l (i * p + j) c) i j = lowered-le p (lowered l (i * p + j) c) j i c (lowered-size p l i j c s hi hj) hj hi i j hj in
+      let b : cell p (lowered (lowered l (i * p + j) c) (j * p + i) c) i j ≤ℤ cell p (lowered l (i * p + j) c) i j =
+      lowered-le p (lowered l (i * p + j) c) j i c (lowered-size p l i j c s hi hj) hj hi i j hj in
       rw (e .0, e .1) (omega (arith, zed))
   linked-at false u v (inr e) = rw (e .1, e .2) (lowered-at p (lowered l (i * p + j) c) j i c (lowered-size p l i j c s hi hj) hj hi)
 
@@ -162,15 +170,22 @@ module _ (d : Bool) (p : ℕ) (r : List ℕ) where
   poured-low (x ∷ xs) l w s u v c k (inl a) =
       let l′ = linked d p l (getD r (x .a) 0) (getD r (x .b) 0) (x .cost) in
       let e : cell p (poured d p r xs l′) (getD r u 0) (getD r v 0) ≤ℤ cell p l′ (getD r u 0) (getD r v 0) = poured-le xs l′ (w .2) (linked-size p l _ _ _ s (w .0) (w .1) d) _ _ k in
-      let f : cell p l′ (getD r u 0) (getD r v 0) ≤ℤ x .cost = linked-at p l _ _ _ s (w .0) (w .1) d _ _ (⊎-elim (λ q. inl (ap (λ (y : ℕ). getD r y 0) (sym (q .0)), ap (λ (y : ℕ). getD r y 0) (sym (q .1)))) (λ q. inr (q .0, ap (λ (y : ℕ). getD r y 0) (sym (q .2)), ap (λ (y : ℕ). getD r y 0) (sym (q .1)))) (joined d u v x (a .0))) in
+      let f : cell p l′ (getD r u 0) (getD r v 0) ≤ℤ x .cost = linked-at p l _ _ _ s (w .0) (w .1) d _ _
+      (⊎-elim (λ q. inl (ap (λ (y : ℕ). getD r y 0) (sym (q .0)), ap (λ (y : ℕ). getD r y 0) (sym (q .1))))
+      (λ q. inr (q .0, ap (λ (y : ℕ). getD r y 0) (sym (q .2)), ap (λ (y : ℕ). getD r y 0) (sym (q .1)))) (joined d u v x (a .0))) in
       let z : x .cost ≡ c = a .1 in
       omega (arith, zed)
 
-  pub poured-new : (xs : List (Link ℤ)) (l : List ℤ) → RowsBelow xs → length l ≡ p * p → (i j : ℕ) → j < p → (cell p (poured d p r xs l) i j ≡ cell p l i j) ⊎ ArcIn xs i j (cell p (poured d p r xs l) i j)
+  pub poured-new : (xs : List (Link ℤ)) (l : List ℤ) → RowsBelow xs → length l ≡ p * p → (i j : ℕ) → j < p
+      → (cell p (poured d p r xs l) i j ≡ cell p l i j) ⊎ ArcIn xs i j (cell p (poured d p r xs l) i j)
   poured-new [] l w s i j k = inl refl
-  poured-new (x ∷ xs) l w s i j k = ⊎-elim old (λ a. inr (record { u = a .u; v = a .v; arc = inr (a .arc); row = a .row; column = a .column })) (poured-new xs (linked d p l (getD r (x .a) 0) (getD r (x .b) 0) (x .cost)) (w .2) (linked-size p l _ _ _ s (w .0) (w .1) d) i j k)
+  poured-new (x ∷ xs) l w s i j k =
+      ⊎-elim old (λ a. inr (record { u = a .u; v = a .v; arc = inr (a .arc); row = a .row; column = a .column }))
+      (poured-new xs (linked d p l (getD r (x .a) 0) (getD r (x .b) 0) (x .cost)) (w .2) (linked-size p l _ _ _ s (w .0) (w .1) d) i j k)
     where
-      old : cell p (poured d p r xs (linked d p l (getD r (x .a) 0) (getD r (x .b) 0) (x .cost))) i j ≡ cell p (linked d p l (getD r (x .a) 0) (getD r (x .b) 0) (x .cost)) i j → (cell p (poured d p r xs (linked d p l (getD r (x .a) 0) (getD r (x .b) 0) (x .cost))) i j ≡ cell p l i j) ⊎ ArcIn (x ∷ xs) i j (cell p (poured d p r xs (linked d p l (getD r (x .a) 0) (getD r (x .b) 0) (x .cost))) i j)
+      old : cell p (poured d p r xs (linked d p l (getD r (x .a) 0) (getD r (x .b) 0) (x .cost))) i j ≡ cell p (linked d p l (getD r (x .a) 0) (getD r (x .b) 0) (x .cost)) i j
+          → (cell p (poured d p r xs (linked d p l (getD r (x .a) 0) (getD r (x .b) 0) (x .cost))) i j ≡ cell p l i j) ⊎ ArcIn (x ∷ xs) i j
+          (cell p (poured d p r xs (linked d p l (getD r (x .a) 0) (getD r (x .b) 0) (x .cost))) i j)
       old e =
           ⊎-elim (λ f. inl (e ∙ f))
           (λ f. ⊎-elim

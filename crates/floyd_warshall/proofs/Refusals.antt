@@ -1,17 +1,18 @@
 -- The refusals 1 and 2 as facts.
 -- Assumes nothing.
-use mathlib.Core.Path.{_≡_, refl, _∙_, subst}
-use mathlib.Core.Bool.{Bool, true, false}
+use mathlib.Core.Path.{_≡_, subst}
+use mathlib.Core.Bool.{true, false}
 use mathlib.Core.List.{List}
 use Prim.Native.Nat.{ℕ, _*_, _≤_, _<_}
-use native.Mathlib.Omega.{arith}
 use borrow.Author.Tests.{leb-true, le-leb, lt-leb}
 use lib.Dec.{leb}
 use lib.IntN.{ℤ}
 use lib.ListN.{length}
 use Rattle.whole.proofs.Cases.{and-left, and-right}
+use Rattle.clean.specs.Fill.{filled}
 use Rattle.net.specs.Net.{Net, wholeNet, insideNet, width}
-use Rattle.matrix.specs.Matrix.{square, short, outside}
+use Rattle.matrix.specs.Matrix.{square, buffersOf}
+use Rattle.matrix.proofs.Settles as pairs
 use Rattle.floyd_warshall.specs.Promise.{enough, Promise}
 use Rattle.floyd_warshall.specs.Filling.{refusalNo}
 
@@ -54,21 +55,18 @@ module _ (g : Net ℤ) (matrix : List ℤ) (ranks : List ℕ) where
   -- a refusal is what the promise says
   pub refused : (r : ℕ) → r ≡ refusalNo g matrix ranks → (r ≡ 0 → ⊥) → Promise g matrix ranks matrix ranks r
   unfolding refusalNo
-  refused r q f = go (enough g matrix ranks) (insideNet g) refl refl
-    where
-      go : (x y : Bool) → enough g matrix ranks ≡ x → insideNet g ≡ y → Promise g matrix ranks matrix ranks r
-      go false y e i = short (q ∙ rw e) e refl refl
-      go true false e i = outside (q ∙ rw (e, i)) e i refl refl
-      go true true e i = absurd (f (q ∙ rw (e, i)))
+  refused = pairs.refused g (enough g matrix ranks) (filled (g .bound) 0 ranks) (buffersOf matrix ranks)
 
   -- no refusal
   pub passed : refusalNo g matrix ranks ≡ 0 → Passed g matrix ranks
   unfolding refusalNo enough
-  passed q = go (enough g matrix ranks) (insideNet g) refl refl
-    where
-      go : (x y : Bool) → enough g matrix ranks ≡ x → insideNet g ≡ y → Passed g matrix ranks
-      go false y e i = absurd (let h : refusalNo g matrix ranks ≡ 1 = rw e in omega (arith, q, h))
-      go true false e i = absurd (let h : refusalNo g matrix ranks ≡ 2 = rw (e, i) in omega (arith, q, h))
-      go true true e i =
-          let l = and-right (wholeNet g) _ e in
-          record { enough = e; whole = and-left (wholeNet g) _ e; inside = i; scratch = leb-true _ _ (and-left (leb (g .bound) (length ranks)) _ l); output = leb-true _ _ (and-right (leb (g .bound) (length ranks)) _ l) }
+  passed q =
+      let p = pairs.passed g (enough g matrix ranks) (filled (g .bound) 0 ranks) (buffersOf matrix ranks) q in
+      let l = and-right (wholeNet g) _ (p .0) in
+      record {
+        enough = p .0;
+        whole = and-left (wholeNet g) _ (p .0);
+        inside = p .1;
+        scratch = leb-true _ _ (and-left (leb (g .bound) (length ranks)) _ l);
+        output = leb-true _ _ (and-right (leb (g .bound) (length ranks)) _ l);
+      }

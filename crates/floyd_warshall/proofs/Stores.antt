@@ -68,7 +68,12 @@ pub record Showing (l₀ : List ℤ) (x : ℕ) (l : List ℤ) : Type 0 where
   pub rest : (y : ℕ) → x ≤ y → getD l y (pos 0) ≡ getD l₀ y (pos 0)
 
 pub showing-more : (l₀ : List ℤ) (x : ℕ) (l : List ℤ) (z : ℤ) → x < length l → z ≡ shown (getD l x (pos 0)) → Showing l₀ x l → Showing l₀ (x + 1) (set l x z)
-showing-more l₀ x l z h e r = record { within = omega (arith, r .size); size = length-set l x z ∙ r .size; at = λ y k. go y (ℕ-discrete y x) k; rest = λ y k. getD-set-other l x y z (pos 0) (λ f. omega arith) ∙ r .rest y (omega arith) }
+showing-more l₀ x l z h e r = record {
+  within = omega (arith, r .size);
+  size = length-set l x z ∙ r .size;
+  at = λ y k. go y (ℕ-discrete y x) k;
+  rest = λ y k. getD-set-other l x y z (pos 0) (λ f. omega arith) ∙ r .rest y (omega arith);
+}
   where
     go : (y : ℕ) → Dec (y ≡ x) → y < x + 1 → getD (set l x z) y (pos 0) ≡ shown (getD l₀ y (pos 0))
     go y (yes q) k = subst (λ (w : ℕ). getD (set l x z) w (pos 0) ≡ shown (getD l₀ w (pos 0))) (sym q) (getD-set-same l x z (pos 0) h ∙ (e ∙ ap shown (r .rest x (omega arith))))
@@ -107,13 +112,16 @@ pub record Pouring (d : Bool) (p : ℕ) (r : List ℕ) (n : ℕ) (xs ys : List �
   pub same : poured d p r (drop e (links n xs ys cs)) l ≡ poured d p r (links n xs ys cs) l₀
 
 module _ {d : Bool} {p : ℕ} {r : List ℕ} {n : ℕ} {xs ys : List ℕ} {cs l₀ : List ℤ} {e : ℕ} {l : List ℤ} (q : Pouring d p r n xs ys cs l₀ e l) where
-  pub pouring-more : {l′ : List ℤ} {c : ℤ} → e < n → (n ≤ length xs) × (n ≤ length ys) × (n ≤ length cs) → length l′ ≡ length l → c ≡ getD cs e (pos 0) → Cost32 (getD cs e (pos 0)) → l′ ≡ linked d p l (getD r (getD xs e 0) 0) (getD r (getD ys e 0) 0) c → Pouring d p r n xs ys cs l₀ (e + 1) l′
+  pub pouring-more : {l′ : List ℤ} {c : ℤ} → e < n → (n ≤ length xs) × (n ≤ length ys) × (n ≤ length cs) → length l′ ≡ length l → c ≡ getD cs e (pos 0) → Cost32 (getD cs e (pos 0))
+      → l′ ≡ linked d p l (getD r (getD xs e 0) 0) (getD r (getD ys e 0) 0) c → Pouring d p r n xs ys cs l₀ (e + 1) l′
   pouring-more {l′} {c} h k s z f g =
       record {
         within = omega arith;
         fits = λ x i. go x (ℕ-discrete x e) i;
         size = s ∙ q .size;
-        same = ap (poured d p r (drop (e + 1) (links n xs ys cs))) (g ∙ ap (linked d p l (getD r (getD xs e 0) 0) (getD r (getD ys e 0) 0)) z) ∙ (sym (ap (λ (t : List (Link ℤ)). poured d p r t l) (next-link n e xs ys cs h (k .0) (k .1) (k .2))) ∙ q .same);
+        same =
+            ap (poured d p r (drop (e + 1) (links n xs ys cs))) (g ∙ ap (linked d p l (getD r (getD xs e 0) 0) (getD r (getD ys e 0) 0)) z)
+            ∙ (sym (ap (λ (t : List (Link ℤ)). poured d p r t l) (next-link n e xs ys cs h (k .0) (k .1) (k .2))) ∙ q .same);
       }
     where
       go : (x : ℕ) → Dec (x ≡ e) → x < e + 1 → Cost32 (getD cs x (pos 0))

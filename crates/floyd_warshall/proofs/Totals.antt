@@ -108,7 +108,18 @@ module _ {Arc : ℕ → ℕ → ℤ → Type 0} {L : List ℕ} (R : Rowed Arc L)
             to = g .to;
             from = f .from;
             inside = f .inside;
-            high = omega (arith, zed, sum s t, sum (g .b) (f .a), sum (g .a) (f .b), sum (g .a ⊕ f .b) (pos (2 ^ 50)), sum (g .a) (g .b), sum (g .a ⊕ g .b) (pos (2 ^ 50)), sum (f .a) (f .b), sum (f .a ⊕ f .b) (pos (2 ^ 50)));
+            high = omega (
+              arith,
+              zed,
+              sum s t,
+              sum (g .b) (f .a),
+              sum (g .a) (f .b),
+              sum (g .a ⊕ f .b) (pos (2 ^ 50)),
+              sum (g .a) (g .b),
+              sum (g .a ⊕ g .b) (pos (2 ^ 50)),
+              sum (f .a) (f .b),
+              sum (f .a ⊕ f .b) (pos (2 ^ 50)),
+            );
           }))
 
   module _ {A : ℕ → ℕ → ℤ} (F : Filled Arc L A) where
@@ -117,7 +128,16 @@ module _ {Arc : ℕ → ℕ → ℤ → Type 0} {L : List ℕ} (R : Rowed Arc L)
     first-known i j h k = go (F .real i j h k)
       where
         go : (A i j ≡ pos (2 ^ 50)) ⊎ Walk Arc (getD L i 0) (getD L j 0) (A i j) → EntryMeans Arc L i j (A i j)
-        go (inl e) = inr (inr (record { x = getD L i 0; y = getD L j 0; a = pos 0; b = pos 0; to = stay refl; from = stay refl; inside = R .row j k; high = omega (arith, zed, sum (pos 0) (pos 0), sum (pos 0 ⊕ pos 0) (pos (2 ^ 50))) }))
+        go (inl e) = inr (inr (record {
+          x = getD L i 0;
+          y = getD L j 0;
+          a = pos 0;
+          b = pos 0;
+          to = stay refl;
+          from = stay refl;
+          inside = R .row j k;
+          high = omega (arith, zed, sum (pos 0) (pos 0), sum (pos 0 ⊕ pos 0) (pos (2 ^ 50)));
+        }))
         go (inr w) = inr (inl w)
 
     -- and after k of them

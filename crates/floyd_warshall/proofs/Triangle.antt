@@ -89,7 +89,8 @@ module _ (A : ℕ → ℕ → ℤ) where
   kept-column k u h = lesser-first (after A k u k) (after A k u k ⊕ after A k k k) (omega (arith, zed, sum (after A k u k) (after A k k k)))
 
   -- the triangle rule through each index whose round is done
-  triangle-more : (k : ℕ) → pos 0 ≤ℤ after A k k k → ((u v x : ℕ) → x < k → after A k u v ≤ℤ after A k u x ⊕ after A k x v) → (u v x : ℕ) → x < suc k → after A (suc k) u v ≤ℤ after A (suc k) u x ⊕ after A (suc k) x v
+  triangle-more : (k : ℕ) → pos 0 ≤ℤ after A k k k → ((u v x : ℕ) → x < k → after A k u v ≤ℤ after A k u x ⊕ after A k x v) → (u v x : ℕ) → x < suc k
+      → after A (suc k) u v ≤ℤ after A (suc k) u x ⊕ after A (suc k) x v
   triangle-more k up part u v x h = at (ℕ-discrete x k)
     where
       go : x < k → Choice (after A k u x) (after A k u k ⊕ after A k k x) →
@@ -119,7 +120,15 @@ module _ (A : ℕ → ℕ → ℤ) where
           let w : after A k k k ≤ℤ after A k k x ⊕ after A k x k = part k k x i in
           let y = up in
           let z : after A (suc k) u v ≤ℤ after A k u k ⊕ after A k k v = through k u v in
-          omega (arith, zed, sum (after A (suc k) u x) (after A (suc k) x v), sum (after A k k x) (after A k x k), sum (after A k u k) (after A k k x), sum (after A k x k) (after A k k v), sum (after A k u k) (after A k k v))
+          omega (
+            arith,
+            zed,
+            sum (after A (suc k) u x) (after A (suc k) x v),
+            sum (after A k k x) (after A k x k),
+            sum (after A k u k) (after A k k x),
+            sum (after A k x k) (after A k k v),
+            sum (after A k u k) (after A k k v),
+          )
 
       at : Dec (x ≡ k) → after A (suc k) u v ≤ℤ after A (suc k) u x ⊕ after A (suc k) x v
       at (yes e) =
@@ -160,7 +169,11 @@ module _ (A : ℕ → ℕ → ℤ) where
           let f : after A (suc k) u v ≡ after A k u k ⊕ after A k k v = one-more k u v ∙ e .0 in
           let g : after A k k (h .x) ⊕ A (h .x) v ≤ℤ after A k k v = h .low in
           let z : after A (suc k) u (h .x) ≤ℤ after A k u k ⊕ after A k k (h .x) = through k u (h .x) in
-          inr (record { x = h .x; inner = omega (arith, h .inner); low = omega (arith, zed, sum (after A k u k) (after A k k v), sum (after A k k (h .x)) (A (h .x) v), sum (after A k u k) (after A k k (h .x)), sum (after A (suc k) u (h .x)) (A (h .x) v)) })
+          inr (record {
+            x = h .x;
+            inner = omega (arith, h .inner);
+            low = omega (arith, zed, sum (after A k u k) (after A k k v), sum (after A k k (h .x)) (A (h .x) v), sum (after A k u k) (after A k k (h .x)), sum (after A (suc k) u (h .x)) (A (h .x) v));
+          })
 
   -- while no diagonal entry is below zero, the entries stay within twice the bound of what stood there first
   pub stays-near : (p b k : ℕ) → k ≤ p → ((u v : ℕ) → u < p → v < p → Within b (A u v)) → Diagonal A p k → (u v : ℕ) → u < p → v < p → Within (b + b) (after A k u v)

@@ -10,7 +10,7 @@ use native.Mathlib.Decide.{ℕ-discrete, decLt}
 use native.Mathlib.Nat.{mul-le-mul-right}
 use native.Mathlib.Numerals.{add-one}
 use native.Mathlib.Omega.{arith}
-use lib.IntN.{ℤ, pos, negsuc}
+use lib.IntN.{ℤ, pos}
 use lib.ListN.{length, getD, set, length-set}
 use lib.Signed.{ltZ, _≤ℤ_, _<ℤ_}
 use Rattle.whole.specs.Zed.{_⊕_, zed, sum, Within}
@@ -63,7 +63,9 @@ some-below l first step (suc n) e = go (some-below l first step n) (anyBelow l f
   where
     go : (anyBelow l first step n ≡ true → BelowAt l first step n) → (b : Bool) → anyBelow l first step n ≡ b → BelowAt l first step (suc n)
     go f true q = let r = f q in record { i = r .i; within = omega (arith, r .within); low = r .low }
-    go f false q = let t : ltZ (getD l (first + n * step) (pos 0)) (pos 0) ≡ true = sym (ap (λ (x : Bool). x || ltZ (getD l (first + n * step) (pos 0)) (pos 0)) q) ∙ e in record { i = n; within = omega arith; low = omega (arith, zed) }
+    go f false q =
+        let t : ltZ (getD l (first + n * step) (pos 0)) (pos 0) ≡ true = sym (ap (λ (x : Bool). x || ltZ (getD l (first + n * step) (pos 0)) (pos 0)) q) ∙ e in
+        record { i = n; within = omega arith; low = omega (arith, zed) }
 
 -- ---- before round k
 pub record Round (p : ℕ) (l₀ : List ℤ) (k : ℕ) (l : List ℤ) : Type 0 where
@@ -108,10 +110,23 @@ module _ {p : ℕ} {l₀ : List ℤ} where
       first (suc k) u h i = absurd (omega arith)
 
   pub rows-first : {k : ℕ} {l : List ℤ} → k < p → Round p l₀ k l → Rows p l₀ k 0 l
-  rows-first h r = record { begun = r .begun; turn = h; here = omega arith; size = r .size; up = r .up; done = λ u v i. absurd (omega arith); fine = λ u i. absurd (omega arith); next = λ u v i. r .all u v }
+  rows-first h r =
+      record { begun = r .begun; turn = h; here = omega arith; size = r .size; up = r .up; done = λ u v i. absurd (omega arith); fine = λ u i. absurd (omega arith); next = λ u v i. r .all u v }
 
   pub turn-first : {k i : ℕ} {l : List ℤ} → i < p → Rows p l₀ k i l → Turn p l₀ k i 0 l
-  turn-first {k} {i} {l} h r = record { begun = r .begun; turn = r .turn; here = h; at = omega arith; size = r .size; up = r .up; done = r .done; fine = r .fine; part = λ v q. absurd (omega arith); rest = λ v q. r .next i v (omega arith) h; next = λ u v q. r .next u v (omega arith) }
+  turn-first {k} {i} {l} h r = record {
+    begun = r .begun;
+    turn = r .turn;
+    here = h;
+    at = omega arith;
+    size = r .size;
+    up = r .up;
+    done = r .done;
+    fine = r .fine;
+    part = λ v q. absurd (omega arith);
+    rest = λ v q. r .next i v (omega arith) h;
+    next = λ u v q. r .next u v (omega arith);
+  }
 
   -- while no diagonal entry is below zero, entries are small
   small : (k : ℕ) → k < p → Begun p l₀ → Diagonal (cell p l₀) p k → (u v : ℕ) → u < p → v < p → Within (2 ^ 60) (after (cell p l₀) k u v)
@@ -192,7 +207,8 @@ module _ {p : ℕ} {l₀ : List ℤ} where
     block-done n h f = subst (Turn p l₀ k i (j + n)) (sym f) (turns n refl h)
 
   -- one row more, as a list of entries and a diagonal entry
-  row-more : {k i : ℕ} {l : List ℤ} → i < p → k < p → Begun p l₀ → length l ≡ p * p → Diagonal (cell p l₀) p k → ((u v : ℕ) → u < i → v < p → cell p l u v ≡ after (cell p l₀) (suc k) u v) → ((u : ℕ) → u < i → pos 0 ≤ℤ after (cell p l₀) (suc k) u u) → ((u v : ℕ) → i < u → u < p → v < p → cell p l u v ≡ after (cell p l₀) k u v)
+  row-more : {k i : ℕ} {l : List ℤ} → i < p → k < p → Begun p l₀ → length l ≡ p * p → Diagonal (cell p l₀) p k → ((u v : ℕ) → u < i → v < p → cell p l u v ≡ after (cell p l₀) (suc k) u v)
+      → ((u : ℕ) → u < i → pos 0 ≤ℤ after (cell p l₀) (suc k) u u) → ((u v : ℕ) → i < u → u < p → v < p → cell p l u v ≡ after (cell p l₀) k u v)
       → ((v : ℕ) → v < p → cell p l i v ≡ after (cell p l₀) (suc k) i v) → pos 0 ≤ℤ after (cell p l₀) (suc k) i i → Rows p l₀ k (i + 1) l
   row-more {k} {i} {l} h t b s up done fine next row diag =
       record {
@@ -234,21 +250,25 @@ module _ {p : ℕ} {l₀ : List ℤ} where
         go (no q) = record { k = k; u = i; turn = omega (arith, r .turn); within = r .here; low = subst (λ (z : ℤ). z <ℤ pos 0) (r .rest i (omega (arith, q)) (r .here)) low }
 
   -- a row that cannot change is done: row k has no entry below zero, and the entry in column k is as large as an entry can be
-  pub row-skipped : {k i : ℕ} {l l₁ : List ℤ} {falls : Bool} {a : ℤ} → i < p → Round p l₀ k l₁ → Rows p l₀ k i l → falls ≡ anyBelow l₁ (k * p) 1 p → a ≡ after (cell p l₀) k i k → reaching falls a ≡ false → Rows p l₀ k (i + 1) l
+  pub row-skipped : {k i : ℕ} {l l₁ : List ℤ} {falls : Bool} {a : ℤ} → i < p → Round p l₀ k l₁ → Rows p l₀ k i l → falls ≡ anyBelow l₁ (k * p) 1 p → a ≡ after (cell p l₀) k i k
+      → reaching falls a ≡ false → Rows p l₀ k (i + 1) l
   unfolding reaching
   row-skipped {k} {i} {l} {l₁} {falls} {a} h o r f e g =
       row-more h (r .turn) (r .begun) (r .size) (r .up) (r .done) (r .fine) (λ u v q. r .next u v (omega arith)) (λ v w. r .next i v (omega arith) h w ∙ sym (same v w))
       (subst (λ (z : ℤ). pos 0 ≤ℤ z) (sym (same i h)) (r .up k i (omega arith) h))
     where
       flat : (v : ℕ) → v < p → pos 0 ≤ℤ after (cell p l₀) k k v
-      flat v w = subst (λ (z : ℤ). pos 0 ≤ℤ z) (o .all k v (r .turn) w) (subst (λ (x : ℕ). pos 0 ≤ℤ getD l₁ (k * p + x) (pos 0)) (omega arith) (none-below l₁ (k * p) 1 p (sym f ∙ or-no falls _ g .0) v w))
+      flat v w =
+          subst (λ (z : ℤ). pos 0 ≤ℤ z) (o .all k v (r .turn) w) (subst (λ (x : ℕ). pos 0 ≤ℤ getD l₁ (k * p + x) (pos 0)) (omega arith) (none-below l₁ (k * p) 1 p (sym f ∙ or-no falls _ g .0) v w))
 
       same : (v : ℕ) → v < p → after (cell p l₀) (suc k) i v ≡ after (cell p l₀) k i v
       same v w =
           let z : ltZ a (pos (2 ^ 50)) ≡ false = or-no falls _ g .1 in
           let b : after (cell p l₀) k i v ≤ℤ cell p l₀ i v = below-first (cell p l₀) k i v in
           let n = flat v w in
-          one-more (cell p l₀) k i v ∙ lesser-first (after (cell p l₀) k i v) (after (cell p l₀) k i k ⊕ after (cell p l₀) k k v) (omega (arith, zed, e, r .begun .near i v h w, sum (after (cell p l₀) k i k) (after (cell p l₀) k k v)))
+          one-more (cell p l₀) k i v
+          ∙ lesser-first (after (cell p l₀) k i v) (after (cell p l₀) k i k ⊕ after (cell p l₀) k k v)
+          (omega (arith, zed, e, r .begun .near i v h w, sum (after (cell p l₀) k i k) (after (cell p l₀) k k v)))
 
   -- a round is done
   pub round-done : {k i : ℕ} {l : List ℤ} → p ≤ i → Rows p l₀ k i l → Round p l₀ (k + 1) l

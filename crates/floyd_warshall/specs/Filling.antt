@@ -8,16 +8,17 @@ use lib.IntN.{ℤ, pos}
 use lib.ListN.{length, getD, set}
 use lib.Signed.{ltZ}
 use Rattle.whole.specs.Zed.{Cost32}
+use Rattle.numbers.specs.Numbers.{firstNo}
 use Rattle.clean.specs.None.{noneI64}
 use Rattle.table.specs.Links.{Link}
 use Rattle.walks.specs.Walk.{Negative, Entry}
 use Rattle.net.specs.Net.{Net, ArcOf, has, rising, nodesOf, width, wholeNet, insideNet}
-use Rattle.floyd_warshall.specs.Promise.{enough}
+use Rattle.floyd_warshall.specs.Promise.{table}
 use Rattle.floyd_warshall.specs.Rounds.{pickZ, lesser, cell}
 
 -- refusal 1, then 2, else 0
 unfoldable pub refusalNo : Net ℤ → List ℤ → List ℕ → ℕ
-refusalNo g matrix ranks = cond (enough g matrix ranks) (cond (insideNet g) 0 2) 1
+refusalNo g matrix ranks = firstNo 2 (table g matrix ranks)
 
 -- a map that is not refused
 pub record Sound (g : Net ℤ) : Type 0 where
@@ -69,4 +70,6 @@ pub record MatrixShown (l l′ : List ℤ) : Type 0 where
 -- the answer to a sound map, in a matrix of just the entries used
 abbrev pub Solved : Net ℤ → Bool → List ℤ → Type 0
 Solved g true l = Negative (ArcOf g)
-Solved g false l = (Negative (ArcOf g) → ⊥) × ((i j : ℕ) → i < width g → j < width g → Entry (ArcOf g) (getD (nodesOf g) i 0) (getD (nodesOf g) j 0) (cell (width g) l i j))
+Solved g false l =
+    (Negative (ArcOf g) → ⊥)
+    × ((i j : ℕ) → i < width g → j < width g → Entry (ArcOf g) (getD (nodesOf g) i 0) (getD (nodesOf g) j 0) (cell (width g) l i j))

@@ -11,7 +11,8 @@ ghost use Rattle.table.specs.Links.{links};
 ghost use Rattle.net.specs.Net.{netOf, width};
 ghost use Rattle.floyd_warshall.specs.Promise.{Promise};
 ghost use Rattle.floyd_warshall.specs.Rounds.{lesser, block, Block, reaching, anyBelow, Strided, Begun, Rounded};
-ghost use Rattle.floyd_warshall.specs.Filling.{Square, Started, Sound, Ranked, linked, poured, Costs32Below, shown, MatrixShown, Solved, refusalNo};
+ghost use Rattle.floyd_warshall.specs.Filling.{Square, Started, Sound, Ranked, linked, poured};
+ghost use Rattle.floyd_warshall.specs.Filling.{Costs32Below, shown, MatrixShown, Solved, refusalNo};
 
 // What stands for "no walk" in the rounds: 2^50, far from every total.
 const FAR: i64 = 1125899906842624;
@@ -178,8 +179,13 @@ fn fill(
     p: usize,
     cells: &mut [i64],
 )
-    requires { ⌜ Sound (netOf (map .bound) (map .count) (map .directed) (now marks) (now from) (now to) (now costs)) × Ranked (netOf (map .bound) (map .count) (map .directed) (now marks) (now from) (now to) (now costs)) (now ranks) × (p ≡ width (netOf (map .bound) (map .count) (map .directed) (now marks) (now from) (now to) (now costs))) × Square p (now cells) ⌝ }
-    ensures { λ _. ⌜ Costs32Below (now (costs .entry)) (map .count) × (now (cells .exit) ≡ poured (map .directed) p (now (ranks .entry)) (links (map .count) (now (from .entry)) (now (to .entry)) (now (costs .entry))) (now (cells .entry))) ⌝ }
+    requires { ⌜ Sound (netOf (map .bound) (map .count) (map .directed) (now marks) (now from) (now to) (now costs))
+        × Ranked (netOf (map .bound) (map .count) (map .directed) (now marks) (now from) (now to) (now costs)) (now ranks)
+        × (p ≡ width (netOf (map .bound) (map .count) (map .directed) (now marks) (now from) (now to) (now costs)))
+        × Square p (now cells) ⌝ }
+    ensures { λ _. ⌜ Costs32Below (now (costs .entry)) (map .count)
+        × (now (cells .exit) ≡ poured (map .directed) p (now (ranks .entry))
+        (links (map .count) (now (from .entry)) (now (to .entry)) (now (costs .entry))) (now (cells .entry))) ⌝ }
 {
     let directed = map.directed;
     let n = map.count;
@@ -221,8 +227,13 @@ fn solve(
     p: usize,
     cells: &mut [i64],
 ) -> bool
-    requires { ⌜ Sound (netOf (map .bound) (map .count) (map .directed) (now marks) (now from) (now to) (now costs)) × Ranked (netOf (map .bound) (map .count) (map .directed) (now marks) (now from) (now to) (now costs)) (now ranks) × (p ≡ width (netOf (map .bound) (map .count) (map .directed) (now marks) (now from) (now to) (now costs))) × Square p (now cells) ⌝ }
-    ensures { λ r. ⌜ Solved (netOf (map .bound) (map .count) (map .directed) (now (marks .entry)) (now (from .entry)) (now (to .entry)) (now (costs .entry))) r (now (cells .exit)) ⌝ }
+    requires { ⌜ Sound (netOf (map .bound) (map .count) (map .directed) (now marks) (now from) (now to) (now costs))
+        × Ranked (netOf (map .bound) (map .count) (map .directed) (now marks) (now from) (now to) (now costs)) (now ranks)
+        × (p ≡ width (netOf (map .bound) (map .count) (map .directed) (now marks) (now from) (now to) (now costs)))
+        × Square p (now cells) ⌝ }
+    ensures { λ r. ⌜ Solved
+        (netOf (map .bound) (map .count) (map .directed) (now (marks .entry)) (now (from .entry)) (now (to .entry)) (now (costs .entry))) r
+        (now (cells .exit)) ⌝ }
 {
     start(cells, p);
     fill(map, marks, from, to, costs, ranks, p, cells);
@@ -246,7 +257,9 @@ fn refusal(
     matrix: &[i64],
     ranks: &[usize],
 ) -> usize
-    ensures { λ r. ⌜ r ≡ refusalNo (netOf (map .bound) (map .count) (map .directed) (now (marks .entry)) (now (from .entry)) (now (to .entry)) (now (costs .entry))) (now (matrix .entry)) (now (ranks .entry)) ⌝ }
+    ensures { λ r. ⌜ r ≡ refusalNo
+        (netOf (map .bound) (map .count) (map .directed) (now (marks .entry)) (now (from .entry)) (now (to .entry)) (now (costs .entry)))
+        (now (matrix .entry)) (now (ranks .entry)) ⌝ }
 {
     if !net::whole(map, marks, from, to, costs) {
         return 1;
@@ -264,8 +277,8 @@ fn refusal(
     0
 }
 
-// The least totals between all pairs of nodes. 1 where a lent slice is too short or a limit is passed, 2 where a link names an index that the
-// map has not, 7 where a closed walk totals below zero, else 0.
+// The least totals between all pairs of nodes. 1 where a lent slice is too short or a limit is passed,
+// 2 where a link names an index that the map has not, 7 where a closed walk totals below zero, else 0.
 pub fn floyd_warshall(
     map: Map,
     marks: &[u8],
@@ -275,11 +288,13 @@ pub fn floyd_warshall(
     matrix: &mut [i64],
     ranks: &mut [usize],
 ) -> usize
-    ensures { λ r. ⌜ Promise (netOf (map .bound) (map .count) (map .directed) (now (marks .entry)) (now (from .entry)) (now (to .entry)) (now (costs .entry))) (now (matrix .entry)) (now (ranks .entry)) (now (matrix .exit)) (now (ranks .exit)) r ⌝ }
+    ensures { λ r. ⌜ Promise
+        (netOf (map .bound) (map .count) (map .directed) (now (marks .entry)) (now (from .entry)) (now (to .entry)) (now (costs .entry)))
+        (now (matrix .entry)) (now (ranks .entry)) (now (matrix .exit)) (now (ranks .exit)) r ⌝ }
 {
-    let no = refusal(map, marks, from, to, costs, matrix, ranks);
-    if no != 0 {
-        return no;
+    let refused = refusal(map, marks, from, to, costs, matrix, ranks);
+    if refused != 0 {
+        return refused;
     }
     let m = map.bound;
     let p = net::count_present(m, marks);

@@ -71,7 +71,14 @@ module _ {m p : ℕ} {E : ℕ → ℕ → Type 0} {ns l q mat : List ℕ} where
 
   module _ (can : CanFill m p ns l q mat) {i : ℕ} {l₁ q₁ mat₁ : List ℕ} (f : Filled m p i E ns l q mat l₁ q₁ mat₁) (h : i < p) where
     pub can-row : CanRow m p (getD ns i 0) (i * p) ns l₁ q₁ mat₁
-    can-row = record { source = can .each i h; roomL = omega (arith, can .roomL, f .rest .longL); roomQ = omega (arith, can .roomQ, f .rest .longQ); nodes = can .nodes; room = omega (arith, row-in p i h, can .room, f .long); each = can .each }
+    can-row = record {
+      source = can .each i h;
+      roomL = omega (arith, can .roomL, f .rest .longL);
+      roomQ = omega (arith, can .roomQ, f .rest .longQ);
+      nodes = can .nodes;
+      room = omega (arith, row-in p i h, can .room, f .long);
+      each = can .each;
+    }
 
     pub filled-next : {l₂ q₂ mat₂ : List ℕ} → RowMade m p (getD ns i 0) (i * p) E ns l₁ q₁ mat₁ l₂ q₂ mat₂ → Filled m p (i + 1) E ns l q mat l₂ q₂ mat₂
     filled-next {l₂} {q₂} {mat₂} r = record {

@@ -1,6 +1,6 @@
 -- The refusals 1 and 2 as facts, for a map of any kind.
 -- Each way through the code ends at the first test that fails, those before it having passed, and there `longEnough` and `refusalNo` compute to what is returned. So
--- a number other than 0 is one of the promise's cases, each of which leaves every buffer, and 0 says that the map keeps the limits, every slice is long enough and
+-- a number other than 0 is that of a row of the promise, and such a row leaves every buffer, and 0 says that the map keeps the limits, every slice is long enough and
 -- the links are inside.
 -- Assumes nothing.
 use mathlib.Core.Path.{_≡_, refl, _∙_}
@@ -11,9 +11,10 @@ use borrow.Author.Tests.{leb-true, le-leb, lt-leb}
 use lib.Dec.{leb}
 use lib.ListN.{length}
 use Rattle.whole.proofs.Cases.{and-left, and-right}
-use Rattle.net.specs.Net.{Net, rising, wholeNet, insideNet, width, sizeOf}
+use Rattle.numbers.proofs.Numbers as numbers
+use Rattle.net.specs.Net.{Net, rising, wholeNet, insideNet, width, mostArcsOf}
 use Rattle.net.proofs.Nodes.{count-most}
-use Rattle.hops.specs.Promise.{Buffers, longEnough, enough, Promise, short, outside}
+use Rattle.hops.specs.Promise.{Buffers, longEnough, enough, outcomeOf, table, Promise}
 use Rattle.hops.specs.Parts.{refusalNo, Fits}
 
 -- the test of the buffers, one after the other
@@ -81,37 +82,27 @@ module _ {C : Type 0} (g : Net C) (b : Buffers) where
   unfolding refusalNo
   refused-limits e = rw e
 
-  pub refused-short : wholeNet g ≡ true → longEnough (g .bound) (sizeOf g) (width g) b ≡ false → 1 ≡ refusalNo g b
+  pub refused-short : wholeNet g ≡ true → longEnough (g .bound) (mostArcsOf g) (width g) b ≡ false → 1 ≡ refusalNo g b
   unfolding refusalNo
   refused-short e f = rw (e, f)
 
-  pub refused-outside : wholeNet g ≡ true → longEnough (g .bound) (sizeOf g) (width g) b ≡ true → insideNet g ≡ false → 2 ≡ refusalNo g b
+  pub refused-outside : wholeNet g ≡ true → longEnough (g .bound) (mostArcsOf g) (width g) b ≡ true → insideNet g ≡ false → 2 ≡ refusalNo g b
   unfolding refusalNo
   refused-outside e f i = rw (e, f, i)
 
-  pub refused-none : wholeNet g ≡ true → longEnough (g .bound) (sizeOf g) (width g) b ≡ true → insideNet g ≡ true → 0 ≡ refusalNo g b
+  pub refused-none : wholeNet g ≡ true → longEnough (g .bound) (mostArcsOf g) (width g) b ≡ true → insideNet g ≡ true → 0 ≡ refusalNo g b
   unfolding refusalNo
   refused-none e f i = rw (e, f, i)
 
   -- a refusal is what the promise says
   pub refused : (r : ℕ) → r ≡ refusalNo g b → (r ≡ 0 → ⊥) → Promise g b b r 0
   unfolding refusalNo
-  refused r q f = go (enough g b) (insideNet g) refl refl
-    where
-      go : (x y : Bool) → enough g b ≡ x → insideNet g ≡ y → Promise g b b r 0
-      go false y e i = short (q ∙ rw e) refl e refl
-      go true false e i = outside (q ∙ rw (e, i)) refl e i refl
-      go true true e i = absurd (f (q ∙ rw (e, i)))
+  refused r q f = record { follows = numbers.refused 2 (table g b) (outcomeOf 0 b) (refl, (refl, tt)) r q f }
 
   -- no refusal: nothing is too short, and the links are inside
   pub passed : refusalNo g b ≡ 0 → (enough g b ≡ true) × (insideNet g ≡ true)
   unfolding refusalNo
-  passed q = go (enough g b) (insideNet g) refl refl
-    where
-      go : (x y : Bool) → enough g b ≡ x → insideNet g ≡ y → (enough g b ≡ true) × (insideNet g ≡ true)
-      go false y e i = absurd (let h : refusalNo g b ≡ 1 = rw e in omega (arith, q, h))
-      go true false e i = absurd (let h : refusalNo g b ≡ 2 = rw (e, i) in omega (arith, q, h))
-      go true true e i = (e, i)
+  passed q = let p = numbers.passed 2 (table g b) (refl, (refl, tt)) q in (p .0, p .1 .0)
 
   module _ (ok : refusalNo g b ≡ 0) where
     pub passed-whole : wholeNet g ≡ true
@@ -120,5 +111,5 @@ module _ {C : Type 0} (g : Net C) (b : Buffers) where
     pub passed-inside : insideNet g ≡ true
     passed-inside = passed ok .1
 
-    pub passed-fits : Fits (g .bound) (sizeOf g) (width g) b
+    pub passed-fits : Fits (g .bound) (mostArcsOf g) (width g) b
     passed-fits = fits-of _ _ _ b (and-right (wholeNet g) _ (passed ok .0))

@@ -1,10 +1,10 @@
 -- The promise settles the answer and each buffer, and goes by the ends of the arcs alone: the costs, and the kind of the map, have no influence.
--- Two least numbers of arcs between the same indices are equal, so two matrices are, entry by entry, and the rest is by the cases of the promise. With each arc at
+-- Two least numbers of arcs between the same indices are equal, so two matrices are, entry by entry, and the rest is told by the rows of the promise. With each arc at
 -- the cost 1 a number of arcs is a total, and a least total has fewer arcs than there are indices: so no number of hops is none. Maps of any two kinds whose arcs
 -- have the same ends have the same steps between indices, and so one promise.
 -- Assumes nothing.
 use mathlib.Core.Path.{_≡_, refl, sym, ap, _∙_, subst}
-use mathlib.Core.Bool.{Bool, true, false, _&&_}
+use mathlib.Core.Bool.{Bool, true, _&&_}
 use mathlib.Core.List.{List, [], _∷_, _++_}
 use mathlib.Core.Logic.{_↔_}
 use Prim.Native.Nat.{ℕ, suc, _+_, _*_, _≤_, _<_}
@@ -17,20 +17,21 @@ use lib.Seq.{ext-getD}
 use Rattle.clean.specs.None.{noneU32}
 use Rattle.clean.proofs.Filled.{rest-at}
 use Rattle.whole.specs.Zed.{zed, sum, Within}
-use Rattle.whole.proofs.Cases.{clash, other, agree}
+use Rattle.whole.proofs.Cases.{agree}
+use Rattle.numbers.specs.Numbers.{At, Given, Over}
+use Rattle.numbers.proofs.Numbers.{_then_, is-one, follows-one, exactly, given, follows-over}
 use Rattle.table.specs.Links.{zip3}
 use Rattle.table.proofs.Arcs.{inside-arc, ends-leads}
 use Rattle.walks.specs.Walk.{Walk, Least, NoNeg}
 use Rattle.walks.specs.Walk as walks
 use Rattle.walks.proofs.Cheap.{least-within}
-use Rattle.net.specs.Net.{Net, LeadsOf, linksOf, has, rising, nodesOf, width, wholeNet, insideNet, arcRoom, sizeOf, SameNet}
+use Rattle.net.specs.Net.{Net, LeadsOf, linksOf, has, rising, nodesOf, width, wholeNet, insideNet, mostArcs, mostArcsOf, SameNet}
 use Rattle.net.proofs.Nodes.{rising-same, member, present-in}
 use Rattle.net.proofs.Same.{leads-has, same-leads}
 use Rattle.net.proofs.Bounds.{Whole, width-small}
-use Rattle.net.proofs.Tests.{Test, fails, holds, test-one}
 use Rattle.matrix.proofs.Matrix.{place}
 use Rattle.hops.specs.Steps.{Steps, stay, step, LeastSteps, Entry}
-use Rattle.hops.specs.Promise.{Buffers, Matrix, enough, longEnough, left, Promise, short, outside, done}
+use Rattle.hops.specs.Promise.{Buffers, Matrix, enough, longEnough, left, Outcome, outcomeOf, table, Promise}
 use Rattle.hops.proofs.Steps.{entry-one, entry-over, diagonal-zero}
 
 -- ---- two answers that the promise allows are equal
@@ -44,49 +45,27 @@ matrix-one g b x y p q = ext-getD 0 x y (p .long ∙ sym (q .long)) (λ i h. at 
         subst (λ (z : ℕ). getD x z 0 ≡ getD y z 0) (k .at) (entry-one (p .each (k .i) (k .j) (k .row) (k .column)) (q .each (k .i) (k .j) (k .row) (k .column)))
     at i (no f) = rest-at (width g * width g) x y 0 i (p .rest ∙ sym (q .rest)) (omega (arith, f))
 
-module _ {C : Type 0} (g : Net C) (b : Buffers) where
-  -- a refusal: the number, no nodes, and the buffers as lent
-  abbrev pub Refused : ℕ → Buffers → ℕ → ℕ → Type 0
-  Refused k e n p = (n ≡ k) × (p ≡ 0) × (e ≡ b)
-
-  -- after the tests
-  abbrev pub After : Buffers → ℕ → ℕ → Type 0
-  After e n p = (n ≡ 0) × (p ≡ width g) × Matrix g (b .matrix) (e .matrix) × (e ≡ left g b (e .matrix))
-
-  -- the answer by the first test that fails
-  pub tests : {e : Buffers} {no p : ℕ} → Promise g b e no p → Test (enough g b) (Refused 1 e no p) (Test (insideNet g) (Refused 2 e no p) (After e no p))
-  tests (short n c p q) = fails p (n, c, q)
-  tests (outside n c p i q) = holds p (fails i (n, c, q))
-  tests (done n c p i x q) = holds p (holds i (n, c, x, q))
-
--- the same number, length and buffers
-same-three : {no no′ n p p′ k : ℕ} {e e′ x : Buffers} → (no ≡ n) × (p ≡ k) × (e ≡ x) → (no′ ≡ n) × (p′ ≡ k) × (e′ ≡ x) → (no ≡ no′) × (p ≡ p′) × (e ≡ e′)
-same-three x y = (x .0 ∙ sym (y .0), x .1 ∙ sym (y .1), x .2 ∙ sym (y .2))
+-- what is left after 0: one matrix is allowed, and it tells the rest
+abbrev pub After : {C : Type 0} → Net C → Buffers → Outcome → Type 0
+After g b o = Matrix g (b .matrix) (o .buffers .matrix) × (o ≡ outcomeOf (width g) (left g b (o .buffers .matrix)))
 
 module _ {C : Type 0} {g : Net C} {b : Buffers} where
   -- the number, p and every buffer, the outputs and the scratch
-  pub promise-one : {e e′ : Buffers} {no no′ p p′ : ℕ} → Promise g b e no p → Promise g b e′ no′ p′ → (no ≡ no′) × (p ≡ p′) × (e ≡ e′)
-  promise-one p q =
-      test-one same-three (test-one same-three
-      (λ x y. (x .0 ∙ sym (y .0), x .1 ∙ sym (y .1), x .3 ∙ (ap (left g b) (matrix-one g (b .matrix) _ _ (x .2) (y .2)) ∙ sym (y .3)))))
-      (tests g b p) (tests g b q)
+  pub promise-one : {e e′ : Buffers} {number number′ p p′ : ℕ} → Promise g b e number p → Promise g b e′ number′ p′ → (number ≡ number′) × (p ≡ p′) × (e ≡ e′)
+  promise-one {e} {e′} {number} {number′} {p} {p′} x y =
+      let o = follows-one (table g b) (outcomeOf p e) (outcomeOf p′ e′) number number′ (is-one then is-one then all then tt) (x .follows) (y .follows) in
+      (o .0, ap (λ (z : Outcome). z .count) (o .1), ap (λ (z : Outcome). z .buffers) (o .1))
+    where
+      all : (x y : Outcome) → After g b x → After g b y → x ≡ y
+      all x y p q = p .1 ∙ (ap (λ (z : List ℕ). outcomeOf (width g) (left g b z)) (matrix-one g (b .matrix) _ _ (p .0) (q .0)) ∙ sym (q .1))
 
-  -- ---- each number is given exactly when 01 says
-  module _ {e : Buffers} {no p : ℕ} where
-    pub one-exactly : Promise g b e no p → (no ≡ 1) ↔ (enough g b ≡ false)
-    one-exactly (short n c p q) = (λ z. p, λ z. n)
-    one-exactly (outside n c p i q) = (λ z. other 2 1 n z (λ y. omega arith), λ z. absurd (clash p z))
-    one-exactly (done n c p i x q) = (λ z. other 0 1 n z (λ y. omega arith), λ z. absurd (clash p z))
+  module _ {e : Buffers} {number p : ℕ} (a : Promise g b e number p) where
+    -- ---- each number exactly when its row is reached, and what is then left
+    pub promise-exactly : (k : ℕ) → (number ≡ k) ↔ At k (table g b)
+    promise-exactly = exactly (table g b) (outcomeOf p e) number (a .follows)
 
-    pub two-exactly : Promise g b e no p → (no ≡ 2) ↔ ((enough g b ≡ true) × (insideNet g ≡ false))
-    two-exactly (short n c p q) = (λ z. other 1 2 n z (λ y. omega arith), λ z. absurd (clash (z .0) p))
-    two-exactly (outside n c p i q) = (λ z. (p, i), λ z. n)
-    two-exactly (done n c p i x q) = (λ z. other 0 2 n z (λ y. omega arith), λ z. absurd (clash i (z .1)))
-
-    pub zero-exactly : Promise g b e no p → (no ≡ 0) ↔ ((enough g b ≡ true) × (insideNet g ≡ true))
-    zero-exactly (short n c p q) = (λ z. other 1 0 n z (λ y. omega arith), λ z. absurd (clash (z .0) p))
-    zero-exactly (outside n c p i q) = (λ z. other 2 0 n z (λ y. omega arith), λ z. absurd (clash (z .1) i))
-    zero-exactly (done n c p i x q) = (λ z. (p, i), λ z. n)
+    pub promise-given : (k : ℕ) → number ≡ k → Given k (table g b) (outcomeOf p e)
+    promise-given = given (table g b) (outcomeOf p e) number (a .follows)
 
 -- ---- the diagonal is 0, and a map without nodes leaves the outputs as they were
 pub diagonal : {C : Type 0} (g : Net C) (b x : List ℕ) → Matrix g b x → (i : ℕ) → i < width g → getD x (i * width g + i) 0 ≡ 0
@@ -97,9 +76,12 @@ written-none [] r e = refl
 written-none (y ∷ l) r e = absurd (omega arith)
 
 pub no-nodes : {C : Type 0} {g : Net C} {b e : Buffers} {p : ℕ} → Promise g b e 0 p → width g ≡ 0 → (p ≡ 0) × (e .nodes ≡ b .nodes) × (e .matrix ≡ b .matrix)
-no-nodes (short n c p q) z = other 1 0 n refl (λ y. omega arith)
-no-nodes (outside n c p i q) z = other 2 0 n refl (λ y. omega arith)
-no-nodes {g = g} {b = b} {e = e} (done n c p i x q) z = (c ∙ z, ap (λ (r : Buffers). r .nodes) q ∙ written-none (nodesOf g) (b .nodes) z, subst (λ (w : ℕ). drop (w * w) (e .matrix) ≡ drop (w * w) (b .matrix)) z (x .rest))
+no-nodes {g = g} {b = b} {e = e} a z =
+    let (l, (i, (t, x))) = promise-given a 0 refl in (
+      ap (λ (o : Outcome). o .count) (x .1) ∙ z,
+      ap (λ (o : Outcome). o .buffers .nodes) (x .1) ∙ written-none (nodesOf g) (b .nodes) z,
+      subst (λ (w : ℕ). drop (w * w) (e .matrix) ≡ drop (w * w) (b .matrix)) z (x .0 .rest),
+    )
 
 -- ---- no number of hops is none: a shortest walk passes no index twice, so it has fewer arcs than the map has nodes
 -- each arc at the cost 1
@@ -141,7 +123,8 @@ module _ {E : ℕ → ℕ → Type 0} where
 module _ {C : Type 0} (g : Net C) (inside : insideNet g ≡ true) where
   pub hops-few : (i v d : ℕ) → i < width g → LeastSteps (LeadsOf g) (getD (nodesOf g) i 0) v d → d < width g
   hops-few i v d h l =
-      let w = least-within (nodesOf g) 1 (λ x y c a. present-in g y (leads-has g inside x y (a .0) .1)) (member (nodesOf g) i h) (λ x y c a. subst (Within 1) (sym (a .1)) (omega arith)) (no-neg _) (least-of l) in
+      let w = least-within (nodesOf g) 1 (λ x y c a. present-in g y (leads-has g inside x y (a .0) .1)) (member (nodesOf g) i h) (λ x y c a. subst (Within 1) (sym (a .1)) (omega arith)) (no-neg _)
+      (least-of l) in
       let n : ℕ = w .0 in
       let a : Within (n * 1) (pos d) = w .2 in
       let few : n < width g = w .1 in
@@ -163,7 +146,8 @@ pub ends-back : {C D : Type 0} {g : Net C} {g′ : Net D} → SameEnds g g′ �
 ends-back s = record { bound = sym (s .bound); count = sym (s .count); directed = sym (s .directed); has = λ i. sym (s .has i); leads = λ u v. (s .leads u v .1, s .leads u v .0) }
 
 pub inside-over : {C D : Type 0} {g : Net C} {g′ : Net D} → SameEnds g g′ → insideNet g ≡ true → insideNet g′ ≡ true
-inside-over {g = g} {g′ = g′} s e = inside-arc (g′ .directed) (g′ .bound) (g′ .marks) (linksOf g′) (λ u v c w. let k = leads-has g e u v (s .leads u v .1 (c, w)) in (sym (s .has u) ∙ k .0, sym (s .has v) ∙ k .1))
+inside-over {g = g} {g′ = g′} s e =
+    inside-arc (g′ .directed) (g′ .bound) (g′ .marks) (linksOf g′) (λ u v c w. let k = leads-has g e u v (s .leads u v .1 (c, w)) in (sym (s .has u) ∙ k .0, sym (s .has v) ∙ k .1))
 
 module _ {C D : Type 0} {g : Net C} {g′ : Net D} (s : SameEnds g g′) where
   same-inside : insideNet g ≡ insideNet g′
@@ -172,8 +156,8 @@ module _ {C D : Type 0} {g : Net C} {g′ : Net D} (s : SameEnds g g′) where
   same-nodes : nodesOf g ≡ nodesOf g′
   same-nodes = rising-same (has g) (has g′) (λ i. s .has i) (g .bound) ∙ ap (λ (m : ℕ). rising (has g′) m) (s .bound)
 
-  same-size : sizeOf g ≡ sizeOf g′
-  same-size = λ i. arcRoom (s .directed i) (s .count i)
+  same-size : mostArcsOf g ≡ mostArcsOf g′
+  same-size = λ i. mostArcs (s .directed i) (s .count i)
 
   same-left : (b : Buffers) (x : List ℕ) → left g b x ≡ left g′ b x
   same-left b x = rw (same-nodes, s .bound, same-size)
@@ -181,7 +165,9 @@ module _ {C D : Type 0} {g : Net C} {g′ : Net D} (s : SameEnds g g′) where
   pub matrix-over : (b x : List ℕ) → Matrix g b x → Matrix g′ b x
   matrix-over b x p = record {
     long = p .long;
-    each = subst (λ (r : List ℕ). (i j : ℕ) → i < length r → j < length r → Entry (LeadsOf g′) (getD r i 0) (getD r j 0) (getD x (i * length r + j) 0)) same-nodes (λ i j h k. entry-over (λ u v. s .leads u v .0) (λ u v. s .leads u v .1) (p .each i j h k));
+    each =
+        subst (λ (r : List ℕ). (i j : ℕ) → i < length r → j < length r → Entry (LeadsOf g′) (getD r i 0) (getD r j 0) (getD x (i * length r + j) 0)) same-nodes
+        (λ i j h k. entry-over (λ u v. s .leads u v .0) (λ u v. s .leads u v .1) (p .each i j h k));
     rest = subst (λ (r : List ℕ). drop (length r * length r) x ≡ drop (length r * length r) b) same-nodes (p .rest);
   }
 
@@ -190,17 +176,25 @@ module _ {C D : Type 0} {g : Net C} {g′ : Net D} (s : SameEnds g g′) where
     same-enough b = λ i. whole i && longEnough (s .bound i) (same-size i) (length (same-nodes i)) b
 
     -- maps of different kinds with the same ends, both long enough or both not, have one promise
-    pub promise-ends : {b e : Buffers} {no p : ℕ} → Promise g b e no p → Promise g′ b e no p
-    promise-ends {b} (short n c p q) = short n c (sym (same-enough b) ∙ p) q
-    promise-ends {b} (outside n c p i q) = outside n c (sym (same-enough b) ∙ p) (sym same-inside ∙ i) q
-    promise-ends {b} {e} (done n c p i x q) = done n (c ∙ ap length same-nodes) (sym (same-enough b) ∙ p) (sym same-inside ∙ i) (matrix-over (b .matrix) (e .matrix) x) (q ∙ same-left b (e .matrix))
+    pub promise-ends : {b e : Buffers} {number p : ℕ} → Promise g b e number p → Promise g′ b e number p
+    promise-ends {b} {e} {number} {p} a = record { follows = follows-over (table g b) (table g′ b) (outcomeOf p e) number rows (a .follows) }
+      where
+        -- row by row
+        rows : Over (table g b) (table g′ b)
+        rows =
+            (refl, same-enough b, λ o q. q)
+            then (refl, same-inside, λ o q. q)
+            then (refl, (λ u. u, λ u. u), λ o q. (matrix-over (b .matrix) (o .buffers .matrix) (q .0), q .1 ∙ (λ i. outcomeOf (length (same-nodes i)) (same-left b (o .buffers .matrix) i))))
+            then tt
 
     -- two calls on such maps, with the same buffers, answer the same and leave the same
-    pub answers-ends : {b e e′ : Buffers} {no no′ p p′ : ℕ} → Promise g b e no p → Promise g′ b e′ no′ p′ → (no ≡ no′) × (p ≡ p′) × (e ≡ e′)
+    pub answers-ends : {b e e′ : Buffers} {number number′ p p′ : ℕ} → Promise g b e number p → Promise g′ b e′ number′ p′ → (number ≡ number′) × (p ≡ p′) × (e ≡ e′)
     answers-ends a c = promise-one (promise-ends a) c
 
 -- no cost, and no open mark, has any influence: maps of any kinds over the same slices of ends have the same ends
-pub costs-free : {C D : Type 0} (m n r r′ : ℕ) (d : Bool) (marks xs ys : List ℕ) (cs : List C) (ds : List D) → n ≤ length cs → n ≤ length ds → SameEnds (record { bound = m; count = n; directed = d; room = r; marks = marks; table = zip3 xs ys cs }) (record { bound = m; count = n; directed = d; room = r′; marks = marks; table = zip3 xs ys ds })
+pub costs-free : {C D : Type 0} (m n r r′ : ℕ) (d : Bool) (marks xs ys : List ℕ) (cs : List C) (ds : List D) → n ≤ length cs → n ≤ length ds
+    → SameEnds (record { bound = m; count = n; directed = d; room = r; marks = marks; table = zip3 xs ys cs })
+    (record { bound = m; count = n; directed = d; room = r′; marks = marks; table = zip3 xs ys ds })
 costs-free m n r r′ d marks xs ys cs ds h k = record {
   bound = refl;
   count = refl;
@@ -217,5 +211,5 @@ module _ {C : Type 0} {g g′ : Net C} (s : SameNet g g′) where
   ends-of : SameEnds g g′
   ends-of = record { bound = s .bound; count = s .count; directed = s .directed; has = s .has; leads = same-leads s }
 
-  pub promise-arcs : {b e : Buffers} {no p : ℕ} → Promise g b e no p → Promise g′ b e no p
+  pub promise-arcs : {b e : Buffers} {number p : ℕ} → Promise g b e number p → Promise g′ b e number p
   promise-arcs a = promise-ends ends-of (s .whole) a

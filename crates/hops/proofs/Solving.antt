@@ -1,17 +1,17 @@
 -- The neighbour list holds the arcs of the links, whatever their costs, so the searches over it solve the map.
 -- Assumes nothing.
-use mathlib.Core.Path.{_≡_, refl, sym, ap, _∙_, subst}
+use mathlib.Core.Path.{_≡_, sym, ap, _∙_, subst}
 use mathlib.Core.Bool.{Bool}
-use mathlib.Core.List.{List, [], _∷_, _++_}
-use Prim.Native.Nat.{ℕ, suc, _+_, _*_, _≤_, _<_}
+use mathlib.Core.List.{List, _++_}
+use Prim.Native.Nat.{ℕ, _+_, _*_, _≤_, _<_}
 use native.Mathlib.Omega.{arith}
 use lib.ListN.{length, getD, drop, take, length-append, length-drop, List·getD-append}
 use lib.Seq.{ext-getD, getD-drop}
 use Rattle.table.specs.Links.{ends, present}
-use Rattle.net.specs.Net.{Net, LeadsOf, nodesOf, width, sizeOf}
+use Rattle.net.specs.Net.{Net, LeadsOf, nodesOf, width, mostArcsOf}
 use Rattle.net.proofs.Nodes.{node-marked, width-most}
 use Rattle.net.proofs.Same.{leads-below}
-use Rattle.rows.specs.Rows.{endLists, arcsEnds, Room, Rows}
+use Rattle.rows.specs.Rows.{endLists, arcsEnds, EnoughFor, Rows}
 use Rattle.rows.specs.RowArc.{Sound}
 use Rattle.rows.specs.Kept.{KeptLists}
 use Rattle.rows.proofs.Graph.{arc-of, row-of, sound}
@@ -29,8 +29,10 @@ module _ {m n : ℕ} {d : Bool} {marks xs ys : List ℕ} {b : Buffers} (ripe : R
   abbrev g : Net Unit
   g = netEnds m n d marks xs ys
 
-  pub list-room : Room (arcsEnds d n xs ys) m (endLists (b .offsets) (b .heads))
-  list-room = room-of (arcsEnds d n xs ys) m (sizeOf g) (endLists (b .offsets) (b .heads)) (links-room d n (ends xs ys)) (omega (arith, ripe .fits .offsets)) (ripe .fits .heads) (omega (arith, units-long (b .heads), ripe .fits .heads))
+  pub list-room : EnoughFor (arcsEnds d n xs ys) m (endLists (b .offsets) (b .heads))
+  list-room =
+      room-of (arcsEnds d n xs ys) m (mostArcsOf g) (endLists (b .offsets) (b .heads)) (links-room d n (ends xs ys)) (omega (arith, ripe .fits .offsets)) (ripe .fits .heads)
+      (omega (arith, units-long (b .heads), ripe .fits .heads))
 
   -- what the node list asks
   pub nodes-room : (m ≤ 1024) × (m ≤ length marks) × (width g ≤ length (b .nodes))
@@ -64,15 +66,18 @@ module _ {m n : ℕ} {d : Bool} {marks xs ys : List ℕ} {b : Buffers} (ripe : R
     pub fit-of : Sound m (endLists os hs)
     fit-of = sound d (take n (ends xs ys)) r (ripe .ready .indices) list-room (λ u v c a. leads-below g (ripe .inside) u v (c, a) .1)
 
-    rests : KeptLists m (sizeOf g) (endLists (b .offsets) (b .heads)) (endLists os hs)
+    rests : KeptLists m (mostArcsOf g) (endLists (b .offsets) (b .heads)) (endLists os hs)
     rests = rows-kept (links-room d n (ends xs ys)) r
 
-    module _ {ns : List ℕ} (is : ns ≡ nodesOf g ++ drop (width g) (b .nodes)) {p : ℕ} (many : p ≡ width g) {l′ q′ x′ : List ℕ} (f : Filled m p p (RowLeads m os hs) ns (b .labels) (b .queue) (b .matrix) l′ q′ x′) where
+    module _ {ns : List ℕ} (is : ns ≡ nodesOf g ++ drop (width g) (b .nodes)) {p : ℕ} (many : p ≡ width g) {l′ q′ x′ : List ℕ}
+        (f : Filled m p p (RowLeads m os hs) ns (b .labels) (b .queue) (b .matrix) l′ q′ x′) where
       full : Filled m (width g) (width g) (RowLeads m os hs) ns (b .labels) (b .queue) (b .matrix) l′ q′ x′
       full = subst (λ (w : ℕ). Filled m w w (RowLeads m os hs) ns (b .labels) (b .queue) (b .matrix) l′ q′ x′) many f
 
       entry-at : (i j : ℕ) → i < width g → j < width g → Entry (LeadsOf g) (getD (nodesOf g) i 0) (getD (nodesOf g) j 0) (getD x′ (i * width g + j) 0)
-      entry-at i j h k = subst (λ (u : ℕ). Entry (LeadsOf g) u (getD (nodesOf g) j 0) (getD x′ (i * width g + j) 0)) (node-at is i h) (subst (λ (v : ℕ). Entry (LeadsOf g) (getD ns i 0) v (getD x′ (i * width g + j) 0)) (node-at is j k) (entry-over leads-of row-leads (full .entry i j h k)))
+      entry-at i j h k =
+          subst (λ (u : ℕ). Entry (LeadsOf g) u (getD (nodesOf g) j 0) (getD x′ (i * width g + j) 0)) (node-at is i h)
+          (subst (λ (v : ℕ). Entry (LeadsOf g) (getD ns i 0) v (getD x′ (i * width g + j) 0)) (node-at is j k) (entry-over leads-of row-leads (full .entry i j h k)))
 
       hops-of : Matrix g (b .matrix) x′
       hops-of = record {

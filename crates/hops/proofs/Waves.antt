@@ -74,8 +74,14 @@ pub kept-trans : {m : ℕ} {l q l′ q′ l″ q″ : List ℕ} → Kept m l q l
 kept-trans a b = record { longL = b .longL ∙ a .longL; longQ = b .longQ ∙ a .longQ; labels = b .labels ∙ a .labels; queue = b .queue ∙ a .queue }
 
 pub kept-met : {m v k n n′ : ℕ} {l q l′ q′ : List ℕ} → v < m → n ≤ m → Met v k n l q l′ q′ n′ → Kept m l q l′ q′
-kept-met {m} {v} {k} {n} {q = q} h f (old z a b c) = record { longL = ap length b; longQ = ap length c ∙ simp length-set; labels = ap (drop m) b; queue = ap (drop (m + 1)) c ∙ drop-set-lt (m + 1) q n v (omega arith) }
-kept-met {m} {v} {k} {n} {l = l} {q = q} h f (new z a b c) = record { longL = ap length b ∙ simp length-set; longQ = ap length c ∙ simp length-set; labels = ap (drop m) b ∙ drop-set-lt m l v k h; queue = ap (drop (m + 1)) c ∙ drop-set-lt (m + 1) q n v (omega arith) }
+kept-met {m} {v} {k} {n} {q = q} h f (old z a b c) =
+    record { longL = ap length b; longQ = ap length c ∙ simp length-set; labels = ap (drop m) b; queue = ap (drop (m + 1)) c ∙ drop-set-lt (m + 1) q n v (omega arith) }
+kept-met {m} {v} {k} {n} {l = l} {q = q} h f (new z a b c) = record {
+  longL = ap length b ∙ simp length-set;
+  longQ = ap length c ∙ simp length-set;
+  labels = ap (drop m) b ∙ drop-set-lt m l v k h;
+  queue = ap (drop (m + 1)) c ∙ drop-set-lt (m + 1) q n v (omega arith);
+}
 
 -- what the code stores is what the look says
 pub met : (v k n : ℕ) (l q : List ℕ) (x y : ℕ) → x ≡ labelOf (getD l v 0) k → y ≡ sizeAfter (getD l v 0) n → Met v k n l q (set l v x) (set q n v) y
@@ -230,7 +236,8 @@ module _ {m s : ℕ} {os hs : List ℕ} (fit : Sound m (endLists os hs)) {u k h 
           subst (λ (w : ℕ). Low l (getD hs w 0) (k + 1)) (sym e) (record { seen = z; most = subst (λ (w : ℕ). getD l w 0 ≤ k + 1) (f .2) (o .top (f .0) (f .1)) })
 
   -- an arc to an index that was not seen, and stands behind the queue
-  open-new : {i n : ℕ} {l q : List ℕ} → Open m s os hs u k i h n l q → i < getD os (u + 1) 0 → getD l (getD hs i 0) 0 ≡ 0 → getD q n 0 ≡ getD hs i 0 → Open m s os hs u k (i + 1) h (n + 1) (set l (getD hs i 0) (k + 1)) q
+  open-new : {i n : ℕ} {l q : List ℕ} → Open m s os hs u k i h n l q → i < getD os (u + 1) 0 → getD l (getD hs i 0) 0 ≡ 0 → getD q n 0 ≡ getD hs i 0
+      → Open m s os hs u k (i + 1) h (n + 1) (set l (getD hs i 0) (k + 1)) q
   open-new {i} {n} {l} {q} o t z at = record {
     good = grown g v (k + 1) below z at (omega arith) (omega (arith, g .small h (o .here), label-at, o .here)) (o .top) walk;
     source = same-label g v (k + 1) below z at s (omega (arith, o .source)) ∙ o .source;
@@ -310,7 +317,8 @@ pub record Rowing (m s : ℕ) (os hs : List ℕ) (u k i h n : ℕ) (l₀ q₀ l 
   pub rest : Kept m l₀ q₀ l q
 
 module _ {m s : ℕ} {os hs : List ℕ} (fit : Sound m (endLists os hs)) {u k h : ℕ} {l₀ q₀ : List ℕ} where
-  pub rowing-next : {i n n′ : ℕ} {l q l′ q′ : List ℕ} → Rowing m s os hs u k i h n l₀ q₀ l q → i < getD os (u + 1) 0 → Met (getD hs i 0) (k + 1) n l q l′ q′ n′ → Rowing m s os hs u k (i + 1) h n′ l₀ q₀ l′ q′
+  pub rowing-next : {i n n′ : ℕ} {l q l′ q′ : List ℕ} → Rowing m s os hs u k i h n l₀ q₀ l q → i < getD os (u + 1) 0 → Met (getD hs i 0) (k + 1) n l q l′ q′ n′
+      → Rowing m s os hs u k (i + 1) h n′ l₀ q₀ l′ q′
   rowing-next {i} r t a = record { state = open-next fit (r .state) t a; rest = kept-trans (r .rest) (kept-met (row-below fit (r .state) t) (few-queued (r .state .good)) a) }
 
   pub rowing-ends : {i n : ℕ} {l q : List ℕ} → Rowing m s os hs u k i h n l₀ q₀ l q → getD os (u + 1) 0 ≤ i → RowDone m s os hs h l₀ q₀ l q n
@@ -323,7 +331,8 @@ pub record Searching (m s : ℕ) (os hs : List ℕ) (h n : ℕ) (l₀ q₀ l q :
 
 module _ {m s : ℕ} {os hs : List ℕ} where
   pub turn-open : {h n : ℕ} {l q : List ℕ} → Turning m s (RowLeads m os hs) h n l q → h < n → Open m s os hs (getD q h 0) (getD l (getD q h 0) 0) (getD os (getD q h 0) 0) h n l q
-  turn-open t x = record { good = t .good; source = t .source; here = x; is = refl; label = refl; top = λ j y. t .top j x y; closed = t .closed; from = omega arith; done = λ j a b. absurd (omega arith) }
+  turn-open t x =
+      record { good = t .good; source = t .source; here = x; is = refl; label = refl; top = λ j y. t .top j x y; closed = t .closed; from = omega arith; done = λ j a b. absurd (omega arith) }
 
   pub turn-next : {h n n′ : ℕ} {l₀ q₀ l q l′ q′ : List ℕ} → Searching m s os hs h n l₀ q₀ l q → RowDone m s os hs h l q l′ q′ n′ → Searching m s os hs (h + 1) n′ l₀ q₀ l′ q′
   turn-next t r = record { turning = r .turning; rest = kept-trans (t .rest) (r .rest) }
@@ -415,5 +424,6 @@ module _ {m s : ℕ} {os hs : List ℕ} (fit : Sound m (endLists os hs)) {h n : 
           let f = t .good .found v b (omega (arith, e)) in
           subst (λ (x : ℕ). getD l x 0 ≤ m) (f .2) (omega (arith, t .good .small (f .0) (f .1), f .1, few-queued (t .good)))
 
-pub searched : {m s : ℕ} {os hs : List ℕ} {h n n₁ : ℕ} {l₀ q₀ l₁ q₁ l q : List ℕ} → Sound m (endLists os hs) → Fresh m s l₀ q₀ → Met s 1 0 l₀ q₀ l₁ q₁ n₁ → Searching m s os hs h n l₁ q₁ l q → (n ≤ h) ⊎ (m ≤ n) → Searched m s (RowLeads m os hs) l₀ q₀ l q
+pub searched : {m s : ℕ} {os hs : List ℕ} {h n n₁ : ℕ} {l₀ q₀ l₁ q₁ l q : List ℕ} → Sound m (endLists os hs) → Fresh m s l₀ q₀ → Met s 1 0 l₀ q₀ l₁ q₁ n₁ → Searching m s os hs h n l₁ q₁ l q
+    → (n ≤ h) ⊎ (m ≤ n) → Searched m s (RowLeads m os hs) l₀ q₀ l q
 searched fit f a t e = record { each = label-entry fit (t .turning) e (f .source); small = label-small fit (t .turning) e; rest = kept-trans (kept-met (f .source) (omega arith) a) (t .rest) }

@@ -1,20 +1,21 @@
 -- What the parts of the public functions promise them: the refusals, the scratch cleared, the map solved by its ends alone.
 -- Assumes nothing.
 use mathlib.Core.Path.{_≡_}
-use mathlib.Core.Bool.{Bool, true, cond}
+use mathlib.Core.Bool.{Bool, true}
 use mathlib.Core.List.{List, _++_}
 use Prim.Native.Nat.{ℕ, _+_, _*_, _≤_}
 use lib.ListN.{length, drop}
+use Rattle.numbers.specs.Numbers.{firstNo}
 use Rattle.clean.specs.Fill.{filled}
 use Rattle.table.specs.Links.{ends}
 use Rattle.table.specs.Lent.{roomEnds}
-use Rattle.net.specs.Net.{Net, nodesOf, width, insideNet, sizeOf}
+use Rattle.net.specs.Net.{Net, nodesOf, width, insideNet, mostArcsOf}
 use Rattle.rows.specs.Rows.{Ready}
-use Rattle.hops.specs.Promise.{Buffers, Matrix, enough, left}
+use Rattle.hops.specs.Promise.{Buffers, Matrix, left, table}
 
 -- refusal 1, then 2, else 0
 unfoldable pub refusalNo : {C : Type 0} → Net C → Buffers → ℕ
-refusalNo g b = cond (enough g b) (cond (insideNet g) 0 2) 1
+refusalNo g b = firstNo 2 (table g b)
 
 -- a map without its costs
 abbrev pub netEnds : ℕ → ℕ → Bool → List ℕ → List ℕ → List ℕ → Net Unit
@@ -34,7 +35,7 @@ pub record Ripe (m n : ℕ) (d : Bool) (marks xs ys : List ℕ) (b : Buffers) : 
   pub ready : Ready m n xs ys
   pub marked : m ≤ length marks
   pub inside : insideNet (netEnds m n d marks xs ys) ≡ true
-  pub fits : Fits m (sizeOf (netEnds m n d marks xs ys)) (width (netEnds m n d marks xs ys)) b
+  pub fits : Fits m (mostArcsOf (netEnds m n d marks xs ys)) (width (netEnds m n d marks xs ys)) b
 
 -- a map solved: the answer, and the length and the rest of each scratch slice as before
 pub record Solved {C : Type 0} (g : Net C) (b e : Buffers) (p : ℕ) : Type 0 where
@@ -46,12 +47,12 @@ pub record Solved {C : Type 0} (g : Net C) (b e : Buffers) (p : ℕ) : Type 0 wh
   pub longL : length (e .labels) ≡ length (b .labels)
   pub longQ : length (e .queue) ≡ length (b .queue)
   pub offsets : drop (g .bound + 1) (e .offsets) ≡ drop (g .bound + 1) (b .offsets)
-  pub heads : drop (sizeOf g) (e .heads) ≡ drop (sizeOf g) (b .heads)
+  pub heads : drop (mostArcsOf g) (e .heads) ≡ drop (mostArcsOf g) (b .heads)
   pub labels : drop (g .bound) (e .labels) ≡ drop (g .bound) (b .labels)
   pub queue : drop (g .bound + 1) (e .queue) ≡ drop (g .bound + 1) (b .queue)
 
 -- the scratch is as long as its part used
-pub record Room (m a : ℕ) (o h l q : List ℕ) : Type 0 where
+pub record EnoughScratch (m a : ℕ) (o h l q : List ℕ) : Type 0 where
   pub bounded : m ≤ 1024
   pub offsets : m + 1 ≤ length o
   pub heads : a ≤ length h

@@ -3,13 +3,14 @@ use table::Map;
 ghost use mathlib.Core.Path.{_≡_};
 ghost use Prim.Native.Nat.{_+_, _*_, _≤_, _<_};
 ghost use lib.ListN.{length, getD};
-ghost use Rattle.net.specs.Net.{netOf, netOf64, rising, arcRoom};
+ghost use Rattle.net.specs.Net.{netOf, netOf64, rising, mostArcs};
 ghost use Rattle.table.specs.Links.{present};
 ghost use Rattle.rows.specs.Rows.{endLists};
 ghost use Rattle.rows.specs.RowArc.{Sound};
-ghost use Rattle.hops.specs.Search.{RowLeads, labelOf, sizeAfter, Met, Open, RowDone, Fresh, Searched, shownOf, CanShow, RowShown, CanRow, RowMade, CanFill, Filled};
+ghost use Rattle.hops.specs.Search.{RowLeads, labelOf, sizeAfter, Met, Open, RowDone, Fresh, Searched};
+ghost use Rattle.hops.specs.Search.{shownOf, CanShow, RowShown, CanRow, RowMade, CanFill, Filled};
 ghost use Rattle.hops.specs.Promise.{Promise, buffersOf, longEnough};
-ghost use Rattle.hops.specs.Parts.{refusalNo, netEnds, Room, Wiped, Ripe, Solved, Answered};
+ghost use Rattle.hops.specs.Parts.{refusalNo, netEnds, EnoughScratch, Wiped, Ripe, Solved, Answered};
 
 // The label of an index that is looked at: the one it had, or the next one where it had none.
 fn label_of(had: usize, next: usize) -> usize
@@ -33,7 +34,8 @@ fn size_after(had: usize, size: usize) -> usize
 }
 
 // Look at the index v: one not seen yet gets the label and goes to the end of the queue. Gives how many stand there.
-// Both slices are stored to in any case, so that no branch has to be guessed: an index seen before is written behind the queue, where it does not count.
+// Both slices are stored to in any case, so that no branch has to be guessed:
+// an index seen before is written behind the queue, where it does not count.
 fn meet(v: usize, label: usize, size: usize, labels: &mut [usize], queue: &mut [usize]) -> usize
     requires { ⌜ (v < length (now labels)) × (size ≤ 1024) × (size < length (now queue)) ⌝ }
     ensures { λ r. ⌜ Met v label size (now (labels .entry)) (now (queue .entry)) (now (labels .exit)) (now (queue .exit)) r ⌝ }
@@ -57,8 +59,10 @@ fn expand(
     queue: &mut [usize],
 ) -> usize
     requires { ⌜ Sound m (endLists (now offsets) (now heads)) ⌝ }
-    requires { ⌜ Open m source (now offsets) (now heads) u (getD (now labels) u 0) (getD (now offsets) u 0) place waiting (now labels) (now queue) ⌝ }
-    ensures { λ r. ⌜ RowDone m source (now (offsets .entry)) (now (heads .entry)) place (now (labels .entry)) (now (queue .entry)) (now (labels .exit)) (now (queue .exit)) r ⌝ }
+    requires { ⌜ Open m source (now offsets) (now heads) u (getD (now labels) u 0) (getD (now offsets) u 0) place waiting (now labels)
+        (now queue) ⌝ }
+    ensures { λ r. ⌜ RowDone m source (now (offsets .entry)) (now (heads .entry)) place (now (labels .entry)) (now (queue .entry))
+        (now (labels .exit)) (now (queue .exit)) r ⌝ }
 {
     let next = labels[u] + 1;
     let end = offsets[u + 1];
@@ -83,7 +87,9 @@ fn search(
 )
     requires { ⌜ Sound m (endLists (now offsets) (now heads)) ⌝ }
     requires { ⌜ Fresh m source (now labels) (now queue) ⌝ }
-    ensures { λ r. ⌜ Searched m source (RowLeads m (now (offsets .entry)) (now (heads .entry))) (now (labels .entry)) (now (queue .entry)) (now (labels .exit)) (now (queue .exit)) ⌝ }
+    ensures { λ r. ⌜ Searched m source
+        (RowLeads m (now (offsets .entry)) (now (heads .entry))) (now (labels .entry)) (now (queue .entry)) (now (labels .exit))
+        (now (queue .exit)) ⌝ }
 {
     let mut size: usize = meet(source, 1, 0, labels, queue);
     let mut head: usize = 0;
@@ -133,7 +139,9 @@ fn make_row(
 )
     requires { ⌜ Sound m (endLists (now offsets) (now heads)) ⌝ }
     requires { ⌜ CanRow m p source at (now nodes) (now labels) (now queue) (now matrix) ⌝ }
-    ensures { λ r. ⌜ RowMade m p source at (RowLeads m (now (offsets .entry)) (now (heads .entry))) (now (nodes .entry)) (now (labels .entry)) (now (queue .entry)) (now (matrix .entry)) (now (labels .exit)) (now (queue .exit)) (now (matrix .exit)) ⌝ }
+    ensures { λ r. ⌜ RowMade m p source at
+        (RowLeads m (now (offsets .entry)) (now (heads .entry))) (now (nodes .entry)) (now (labels .entry)) (now (queue .entry))
+        (now (matrix .entry)) (now (labels .exit)) (now (queue .exit)) (now (matrix .exit)) ⌝ }
 {
     clean::clear_usize(labels, m);
     search(m, source, offsets, heads, labels, queue);
@@ -153,7 +161,9 @@ fn fill(
 )
     requires { ⌜ Sound m (endLists (now offsets) (now heads)) ⌝ }
     requires { ⌜ CanFill m p (now nodes) (now labels) (now queue) (now matrix) ⌝ }
-    ensures { λ r. ⌜ Filled m p p (RowLeads m (now (offsets .entry)) (now (heads .entry))) (now (nodes .entry)) (now (labels .entry)) (now (queue .entry)) (now (matrix .entry)) (now (labels .exit)) (now (queue .exit)) (now (matrix .exit)) ⌝ }
+    ensures { λ r. ⌜ Filled m p p
+        (RowLeads m (now (offsets .entry)) (now (heads .entry))) (now (nodes .entry)) (now (labels .entry)) (now (queue .entry))
+        (now (matrix .entry)) (now (labels .exit)) (now (queue .exit)) (now (matrix .exit)) ⌝ }
 {
     let mut i: usize = 0;
     while i < p {
@@ -187,8 +197,15 @@ fn solve(
     labels: &mut [usize],
     queue: &mut [usize],
 ) -> usize
-    requires { ⌜ Ripe (map .bound) (map .count) (map .directed) (now marks) (now from) (now to) (buffersOf (now nodes) (now matrix) (now offsets) (now heads) (now labels) (now queue)) ⌝ }
-    ensures { λ r. ⌜ Solved (netEnds (map .bound) (map .count) (map .directed) (now (marks .entry)) (now (from .entry)) (now (to .entry))) (buffersOf (now (nodes .entry)) (now (matrix .entry)) (now (offsets .entry)) (now (heads .entry)) (now (labels .entry)) (now (queue .entry))) (buffersOf (now (nodes .exit)) (now (matrix .exit)) (now (offsets .exit)) (now (heads .exit)) (now (labels .exit)) (now (queue .exit))) r ⌝ }
+    requires { ⌜ Ripe (map .bound) (map .count) (map .directed) (now marks) (now from) (now to)
+        (buffersOf (now nodes) (now matrix) (now offsets) (now heads) (now labels) (now queue)) ⌝ }
+    ensures { λ r.
+        let lent = buffersOf (now (nodes .entry)) (now (matrix .entry)) (now (offsets .entry)) (now (heads .entry)) (now (labels .entry))
+        (now (queue .entry)) in
+        let left = buffersOf (now (nodes .exit)) (now (matrix .exit)) (now (offsets .exit)) (now (heads .exit)) (now (labels .exit))
+        (now (queue .exit)) in
+        ⌜ Solved
+        (netEnds (map .bound) (map .count) (map .directed) (now (marks .entry)) (now (from .entry)) (now (to .entry))) lent left r ⌝ }
 {
     let m = map.bound;
     rows::position_csr_ends(map, from, to, offsets, heads);
@@ -206,8 +223,9 @@ fn wipe(
     labels: &mut [usize],
     queue: &mut [usize],
 )
-    requires { ⌜ Room m a (now offsets) (now heads) (now labels) (now queue) ⌝ }
-    ensures { λ r. ⌜ Wiped m a (now (offsets .entry)) (now (heads .entry)) (now (labels .entry)) (now (queue .entry)) (now (offsets .exit)) (now (heads .exit)) (now (labels .exit)) (now (queue .exit)) ⌝ }
+    requires { ⌜ EnoughScratch m a (now offsets) (now heads) (now labels) (now queue) ⌝ }
+    ensures { λ r. ⌜ Wiped m a (now (offsets .entry)) (now (heads .entry)) (now (labels .entry)) (now (queue .entry)) (now (offsets .exit))
+        (now (heads .exit)) (now (labels .exit)) (now (queue .exit)) ⌝ }
 {
     clean::clear_usize(offsets, m + 1);
     clean::clear_u16(heads, a);
@@ -228,10 +246,17 @@ fn answer(
     labels: &mut [usize],
     queue: &mut [usize],
 ) -> usize
-    requires { ⌜ Ripe (map .bound) (map .count) (map .directed) (now marks) (now from) (now to) (buffersOf (now nodes) (now matrix) (now offsets) (now heads) (now labels) (now queue)) ⌝ }
-    ensures { λ r. ⌜ Answered (netEnds (map .bound) (map .count) (map .directed) (now (marks .entry)) (now (from .entry)) (now (to .entry))) (buffersOf (now (nodes .entry)) (now (matrix .entry)) (now (offsets .entry)) (now (heads .entry)) (now (labels .entry)) (now (queue .entry))) (buffersOf (now (nodes .exit)) (now (matrix .exit)) (now (offsets .exit)) (now (heads .exit)) (now (labels .exit)) (now (queue .exit))) r ⌝ }
+    requires { ⌜ Ripe (map .bound) (map .count) (map .directed) (now marks) (now from) (now to)
+        (buffersOf (now nodes) (now matrix) (now offsets) (now heads) (now labels) (now queue)) ⌝ }
+    ensures { λ r.
+        let lent = buffersOf (now (nodes .entry)) (now (matrix .entry)) (now (offsets .entry)) (now (heads .entry)) (now (labels .entry))
+        (now (queue .entry)) in
+        let left = buffersOf (now (nodes .exit)) (now (matrix .exit)) (now (offsets .exit)) (now (heads .exit)) (now (labels .exit))
+        (now (queue .exit)) in
+        ⌜ Answered
+        (netEnds (map .bound) (map .count) (map .directed) (now (marks .entry)) (now (from .entry)) (now (to .entry))) lent left r ⌝ }
 {
-    let a = net::arc_room(map.directed, map.count);
+    let a = net::most_arcs(map.directed, map.count);
     let p = solve(
         map,
         marks,
@@ -260,10 +285,14 @@ fn long_enough(
     queue: &[usize],
 ) -> bool
     requires { ⌜ (map .bound ≤ 1024) × (map .count ≤ 8192) × (map .bound ≤ length (now marks)) ⌝ }
-    ensures { λ r. ⌜ r ≡ longEnough (map .bound) (arcRoom (map .directed) (map .count)) (length (rising (present (map .bound) (now (marks .entry))) (map .bound))) (buffersOf (now (nodes .entry)) (now (matrix .entry)) (now (offsets .entry)) (now (heads .entry)) (now (labels .entry)) (now (queue .entry))) ⌝ }
+    ensures { λ r.
+        let lent = buffersOf (now (nodes .entry)) (now (matrix .entry)) (now (offsets .entry)) (now (heads .entry)) (now (labels .entry))
+        (now (queue .entry)) in
+        ⌜ r ≡ longEnough (map .bound) (mostArcs (map .directed) (map .count))
+        (length (rising (present (map .bound) (now (marks .entry))) (map .bound))) lent ⌝ }
 {
     let m = map.bound;
-    let a = net::arc_room(map.directed, map.count);
+    let a = net::most_arcs(map.directed, map.count);
     let p = net::count_present(m, marks);
     if nodes.len() < p {
         return false;
@@ -300,7 +329,12 @@ fn refusal(
     labels: &[usize],
     queue: &[usize],
 ) -> usize
-    ensures { λ r. ⌜ r ≡ refusalNo (netOf (map .bound) (map .count) (map .directed) (now (marks .entry)) (now (from .entry)) (now (to .entry)) (now (costs .entry))) (buffersOf (now (nodes .entry)) (now (matrix .entry)) (now (offsets .entry)) (now (heads .entry)) (now (labels .entry)) (now (queue .entry))) ⌝ }
+    ensures { λ r.
+        let net = netOf (map .bound) (map .count) (map .directed) (now (marks .entry)) (now (from .entry)) (now (to .entry))
+        (now (costs .entry)) in
+        let lent = buffersOf (now (nodes .entry)) (now (matrix .entry)) (now (offsets .entry)) (now (heads .entry)) (now (labels .entry))
+        (now (queue .entry)) in
+        ⌜ r ≡ refusalNo net lent ⌝ }
 {
     if !net::whole(map, marks, from, to, costs) {
         return 1;
@@ -329,7 +363,12 @@ fn refusal_f64(
     labels: &[usize],
     queue: &[usize],
 ) -> usize
-    ensures { λ r. ⌜ r ≡ refusalNo (netOf64 (map .bound) (map .count) (map .directed) (now (marks .entry)) (now (from .entry)) (now (to .entry)) (now (bits .entry)) (now (opens .entry))) (buffersOf (now (nodes .entry)) (now (matrix .entry)) (now (offsets .entry)) (now (heads .entry)) (now (labels .entry)) (now (queue .entry))) ⌝ }
+    ensures { λ r.
+        let net = netOf64 (map .bound) (map .count) (map .directed) (now (marks .entry)) (now (from .entry)) (now (to .entry))
+        (now (bits .entry)) (now (opens .entry)) in
+        let lent = buffersOf (now (nodes .entry)) (now (matrix .entry)) (now (offsets .entry)) (now (heads .entry)) (now (labels .entry))
+        (now (queue .entry)) in
+        ⌜ r ≡ refusalNo net lent ⌝ }
 {
     if !net::whole_f64(map, marks, from, to, bits, opens) {
         return 1;
@@ -363,9 +402,16 @@ pub fn hops(
     labels: &mut [usize],
     queue: &mut [usize],
 ) -> Counted
-    ensures { λ r. ⌜ Promise (netOf (map .bound) (map .count) (map .directed) (now (marks .entry)) (now (from .entry)) (now (to .entry)) (now (costs .entry))) (buffersOf (now (nodes .entry)) (now (matrix .entry)) (now (offsets .entry)) (now (heads .entry)) (now (labels .entry)) (now (queue .entry))) (buffersOf (now (nodes .exit)) (now (matrix .exit)) (now (offsets .exit)) (now (heads .exit)) (now (labels .exit)) (now (queue .exit))) (r .number) (r .count) ⌝ }
+    ensures { λ r.
+        let net = netOf (map .bound) (map .count) (map .directed) (now (marks .entry)) (now (from .entry)) (now (to .entry))
+        (now (costs .entry)) in
+        let lent = buffersOf (now (nodes .entry)) (now (matrix .entry)) (now (offsets .entry)) (now (heads .entry)) (now (labels .entry))
+        (now (queue .entry)) in
+        let left = buffersOf (now (nodes .exit)) (now (matrix .exit)) (now (offsets .exit)) (now (heads .exit)) (now (labels .exit))
+        (now (queue .exit)) in
+        ⌜ Promise net lent left (r .number) (r .count) ⌝ }
 {
-    let no = refusal(
+    let refused = refusal(
         map,
         marks,
         from,
@@ -378,9 +424,9 @@ pub fn hops(
         labels,
         queue,
     );
-    if no != 0 {
+    if refused != 0 {
         return Counted {
-            number: no,
+            number: refused,
             count: 0,
         };
     }
@@ -417,9 +463,16 @@ pub fn hops_f64(
     labels: &mut [usize],
     queue: &mut [usize],
 ) -> Counted
-    ensures { λ r. ⌜ Promise (netOf64 (map .bound) (map .count) (map .directed) (now (marks .entry)) (now (from .entry)) (now (to .entry)) (now (bits .entry)) (now (opens .entry))) (buffersOf (now (nodes .entry)) (now (matrix .entry)) (now (offsets .entry)) (now (heads .entry)) (now (labels .entry)) (now (queue .entry))) (buffersOf (now (nodes .exit)) (now (matrix .exit)) (now (offsets .exit)) (now (heads .exit)) (now (labels .exit)) (now (queue .exit))) (r .number) (r .count) ⌝ }
+    ensures { λ r.
+        let net = netOf64 (map .bound) (map .count) (map .directed) (now (marks .entry)) (now (from .entry)) (now (to .entry))
+        (now (bits .entry)) (now (opens .entry)) in
+        let lent = buffersOf (now (nodes .entry)) (now (matrix .entry)) (now (offsets .entry)) (now (heads .entry)) (now (labels .entry))
+        (now (queue .entry)) in
+        let left = buffersOf (now (nodes .exit)) (now (matrix .exit)) (now (offsets .exit)) (now (heads .exit)) (now (labels .exit))
+        (now (queue .exit)) in
+        ⌜ Promise net lent left (r .number) (r .count) ⌝ }
 {
-    let no = refusal_f64(
+    let refused = refusal_f64(
         map,
         marks,
         from,
@@ -433,9 +486,9 @@ pub fn hops_f64(
         labels,
         queue,
     );
-    if no != 0 {
+    if refused != 0 {
         return Counted {
-            number: no,
+            number: refused,
             count: 0,
         };
     }

@@ -17,12 +17,11 @@ use lib.Seq.{ext-getD, getD-drop}
 use Rattle.whole.specs.Zed.{P, zed}
 use Rattle.whole.proofs.Cases.{clash}
 use Rattle.clean.specs.Fill.{filled}
-use Rattle.clean.proofs.Filled.{filled-length, filled-at, rest-at}
+use Rattle.clean.proofs.Filled.{filled-length, filled-at}
 use Rattle.table.specs.Links.{Link, links, arcs, starts, Arc}
-use Rattle.walks.specs.Shift.{Shifted}
 use Rattle.walks.proofs.Shift.{shifted-over}
 use Rattle.walks.specs.Costs.{Costs32}
-use Rattle.net.specs.Net.{Net, netOf, ArcOf, wholeNet, insideNet, sizeOf, nodesOf, width}
+use Rattle.net.specs.Net.{Net, netOf, ArcOf, mostArcsOf, nodesOf, width}
 use Rattle.net.proofs.Bounds.{whole-ints, width-small, size-most}
 use Rattle.net.proofs.Same.{arc-has, arc-below}
 use Rattle.net.proofs.Nodes.{present-in}
@@ -34,7 +33,7 @@ use Rattle.rows.proofs.Graph.{here}
 use Rattle.rows.proofs.Kept.{kept-none, kept-more}
 use Rattle.rows.proofs.Maps.{links-room, ready-ints, net-room, arcs-are, net-sound, net-kept, row-small}
 use Rattle.johnson.specs.Rounds.{label, tableOf, Deep}
-use Rattle.johnson.specs.Potentials.{ArcsOf, Ask, Potentials, Answered}
+use Rattle.johnson.specs.Potentials.{Ask, Potentials, Answered}
 use Rattle.johnson.specs.Shifting.{start, Listed, ShiftedTo}
 use Rattle.johnson.specs.Parts.{Even, Ripe, Laid, Prepared}
 use Rattle.johnson.proofs.Shifts.{shifted-low, shifted-high}
@@ -96,7 +95,14 @@ module _ (m n : ℕ) (d : Bool) (marks xs ys : List ℕ) (cs : List ℤ) {s : Li
   ask {p} {h′} is e =
       let long : length h′ ≡ m = ap length e ∙ (filled-length m (pos 0) h (omega (arith, ripe .heights)) ∙ ripe .heights) in
       record {
-        sound = record { few = ready .0 .few; roomA = ready .0 .inFrom; roomB = ready .0 .inTo; roomC = ready .1; tails = λ k l. rw long (ready .0 .tails k l); heads = λ k l. rw long (ready .0 .heads k l) };
+        sound = record {
+          few = ready .0 .few;
+          roomA = ready .0 .inFrom;
+          roomB = ready .0 .inTo;
+          roomC = ready .1;
+          tails = λ k l. rw long (ready .0 .tails k l);
+          heads = λ k l. rw long (ready .0 .heads k l);
+        };
         few = omega (arith, is, few);
         indices = nodesOf g;
         many = sym is;
@@ -108,10 +114,10 @@ module _ (m n : ℕ) (d : Bool) (marks xs ys : List ℕ) (cs : List ℤ) {s : Li
   A = arcs d (links n xs ys cs)
 
   -- the list may be made
-  room : rows.Room A m s
+  room : rows.EnoughFor A m s
   room = net-room g (ripe .rows)
 
-  pub can-list : (Ready m n xs ys × (n ≤ length cs)) × rows.Room A m s
+  pub can-list : (Ready m n xs ys × (n ≤ length cs)) × rows.EnoughFor A m s
   can-list = (ready, room)
 
   -- where the answer is 7 no list is made: offsets, heads and weights are as they were, potentials were written
@@ -143,8 +149,11 @@ module _ (m n : ℕ) (d : Bool) (marks xs ys : List ℕ) (cs : List ℤ) {s : Li
       -- what stands at a place of the list is an arc
       at : (j : ℕ) → j < getD os m 0 → (u : ℕ) × RowArc m nb u (getD hs j 0) (getD ws j (pos 0))
       at j l =
-          let q = row-of-place A m j (omega (arith, start-is m (omega arith))) in
-          (q .row, here m nb (q .row) j (pos 0) (q .below) (omega (arith, start-is (q .row) (omega (arith, q .below)), q .from)) (omega (arith, start-is (q .row + 1) (omega (arith, q .below)), q .to)) (omega (arith, roomW)))
+          let q = row-of-place A m j (omega (arith, start-is m (omega arith))) in (
+            q .row,
+            here m nb (q .row) j (pos 0) (q .below) (omega (arith, start-is (q .row) (omega (arith, q .below)), q .from)) (omega (arith, start-is (q .row + 1) (omega (arith, q .below)), q .to))
+                (omega (arith, roomW)),
+          )
 
       -- the list may be shifted
       pub listed : Listed m 0 nb h″
@@ -187,7 +196,12 @@ module _ (m n : ℕ) (d : Bool) (marks xs ys : List ℕ) (cs : List ℤ) {s : Li
               kept = record {
                 offsets = k .offsets;
                 heads = k .heads;
-                weights = kept-more (k .weights) (record { long = to .long; rest = same-rest (sizeOf g) ws ws′ (to .long) (λ x q. to .rest x (omega (arith, start-is m (omega arith), starts-le A m, links-room d n (g .table)))) });
+                weights =
+                    kept-more (k .weights)
+                    (record {
+                      long = to .long;
+                      rest = same-rest (mostArcsOf g) ws ws′ (to .long) (λ x q. to .rest x (omega (arith, start-is m (omega arith), starts-le A m, links-room d n (g .table))));
+                    });
               };
               yes = λ q. absurd (clash q refl);
               no = λ q. laid;
@@ -198,7 +212,11 @@ pub laid-even : {g : Net ℤ} {nb : Lists ℤ} {h : List ℤ} → width g ≤ 10
 laid-even {g} {nb} {h} few w = record {
   rows = w .rows;
   up = λ u v c a. let q = w .shifted u v c a in subst (λ (x : ℤ). pos 0 ≤ℤ x) (sym (q .2)) (shifted-low h (w .potentials) (q .1));
-  cheap = λ u v c a. let q = w .shifted u v c a in let k : c ≤ℤ pos (2 ^ 41) = subst (λ (x : ℤ). x ≤ℤ pos (2 ^ 41)) (sym (q .2)) (shifted-high h (w .potentials) few (q .1)) in let l : pos 0 ≤ℤ c = subst (λ (x : ℤ). pos 0 ≤ℤ x) (sym (q .2)) (shifted-low h (w .potentials) (q .1)) in up-to c k l;
+  cheap = λ u v c a.
+      let q = w .shifted u v c a in
+      let k : c ≤ℤ pos (2 ^ 41) = subst (λ (x : ℤ). x ≤ℤ pos (2 ^ 41)) (sym (q .2)) (shifted-high h (w .potentials) few (q .1)) in
+      let l : pos 0 ≤ℤ c = subst (λ (x : ℤ). pos 0 ≤ℤ x) (sym (q .2)) (shifted-low h (w .potentials) (q .1)) in
+      up-to c k l;
 }
   where
     up-to : (c : ℤ) → c ≤ℤ pos (2 ^ 41) → pos 0 ≤ℤ c → P c ≤ 2 ^ 41

@@ -17,7 +17,7 @@ use Rattle.whole.specs.Zed.{_⊕_, P, N, zed, sum, Cost32}
 use Rattle.whole.proofs.Cases.{clash}
 use Rattle.walks.specs.Walk.{Walk}
 use Rattle.walks.proofs.Walk.{join, arc}
-use Rattle.johnson.specs.Rounds.{label, lowers, lowered, looked, rounds, Reached, Shallow}
+use Rattle.johnson.specs.Rounds.{label, lowers, lowered, looked, Bounded, Shallow}
 
 -- one of the two parts of a number is 0
 pub parts : (z : ℤ) → P z - N z ≡ P z
@@ -77,8 +77,12 @@ module _ (u v : ℕ) (c : ℤ) (h : List ℤ) where
     pub look-shallow : {m k : ℕ} → Cost32 c → Shallow m k h → Shallow m (k + 1) (lowered u v c h)
     look-shallow {m} {k} small s = record {
       long = look-long ∙ s .long;
-      high = λ x. by-look (λ (l : List ℤ). P (label l x) ≡ 0) (λ e. by-store (λ (z : ℤ). P z ≡ 0) x below (λ q. omega (arith, lowers-below e, s .high v, parts (label h u ⊕ c))) (s .high x)) (λ e. s .high x);
-      low = λ x. by-look (λ (l : List ℤ). N (label l x) ≤ (k + 1) * 2 ^ 31) (λ e. by-store (λ (z : ℤ). N z ≤ (k + 1) * 2 ^ 31) x below (λ q. omega (arith, sum (label h u) c, s .high u, s .low u, parts (label h u ⊕ c))) (omega (arith, s .low x))) (λ e. omega (arith, s .low x));
+      high = λ x.
+          by-look (λ (l : List ℤ). P (label l x) ≡ 0) (λ e. by-store (λ (z : ℤ). P z ≡ 0) x below (λ q. omega (arith, lowers-below e, s .high v, parts (label h u ⊕ c))) (s .high x)) (λ e. s .high x);
+      low = λ x.
+          by-look (λ (l : List ℤ). N (label l x) ≤ (k + 1) * 2 ^ 31)
+          (λ e. by-store (λ (z : ℤ). N z ≤ (k + 1) * 2 ^ 31) x below (λ q. omega (arith, sum (label h u) c, s .high u, s .low u, parts (label h u ⊕ c))) (omega (arith, s .low x)))
+          (λ e. omega (arith, s .low x));
     }
 
 -- each potential is the total of a walk to its index
@@ -119,11 +123,14 @@ module _ (d : Bool) (u v : ℕ) (c : ℤ) (h : List ℤ) where
     pub link-falls : (x : ℕ) → label (looked d u v c h) x ≤ℤ label h x
     link-falls x =
         by-link (λ (l : List ℤ). label l x ≤ℤ label h x) (λ e. look-falls u v c h belowV x)
-        (λ e. let p : label (lowered u v c h) x ≤ℤ label h x = look-falls u v c h belowV x in let q : label (lowered v u c (lowered u v c h)) x ≤ℤ label (lowered u v c h) x = look-falls v u c (lowered u v c h) below-next x in omega (arith, zed))
+        (λ e.
+        let p : label (lowered u v c h) x ≤ℤ label h x = look-falls u v c h belowV x in
+        let q : label (lowered v u c (lowered u v c h)) x ≤ℤ label (lowered u v c h) x = look-falls v u c (lowered u v c h) below-next x in
+        omega (arith, zed))
 
-    pub link-reaches : Reached d u v c h (looked d u v c h)
+    pub link-reaches : Bounded d u v c h (looked d u v c h)
     link-reaches =
-        by-link (λ (l : List ℤ). Reached d u v c h l) (λ e. record { there = look-reaches u v c h belowV; return = λ f. absurd (clash e f) })
+        by-link (λ (l : List ℤ). Bounded d u v c h l) (λ e. record { there = look-reaches u v c h belowV; return = λ f. absurd (clash e f) })
         (λ e. record { there = first; return = λ f. second })
       where
         first : label (lowered v u c (lowered u v c h)) v ≤ℤ label h u ⊕ c

@@ -1,23 +1,23 @@
 -- The refusals 1 and 2 as facts.
 -- Assumes nothing.
-use mathlib.Core.Path.{_≡_, refl, sym, ap, _∙_}
-use mathlib.Core.Bool.{Bool, true, false, cond, _&&_}
+use mathlib.Core.Path.{_≡_, sym, _∙_}
+use mathlib.Core.Bool.{Bool, true, false}
 use mathlib.Core.List.{List}
 use Prim.Native.Nat.{ℕ, _*_}
-use native.Mathlib.Omega.{arith}
 use borrow.Author.Tests.{leb-true}
 use lib.Dec.{leb}
 use lib.IntN.{ℤ}
 use lib.ListN.{length}
 use Rattle.whole.proofs.Cases.{and-left, and-right}
-use Rattle.net.specs.Net.{Net, netOf, wholeNet, insideNet, sizeOf, width}
+use Rattle.net.specs.Net.{Net, netOf, wholeNet, insideNet, mostArcsOf, width}
 use Rattle.table.proofs.Laws.{whole}
 use Rattle.net.proofs.Bounds.{Whole, whole-ints}
-use Rattle.rows.specs.Scratch.{hasRoom}
-use Rattle.rows.proofs.Kept.{has-needs}
+use Rattle.rows.specs.Scratch.{hasLists}
+use Rattle.rows.proofs.Kept.{has-lists}
 use Rattle.search.proofs.Lists.{has-memory}
-use Rattle.matrix.specs.Matrix.{short, outside}
-use Rattle.johnson.specs.Promise.{Scratch, longEnough, enough, Promise}
+use Rattle.matrix.specs.Matrix.{buffersOf}
+use Rattle.matrix.proofs.Settles as pairs
+use Rattle.johnson.specs.Promise.{Scratch, longEnough, enough, wipedAll, Promise}
 use Rattle.johnson.specs.Parts.{refusalNo, Passed}
 
 module _ (g : Net ℤ) (matrix : List ℤ) (s : Scratch) where
@@ -26,8 +26,8 @@ module _ (g : Net ℤ) (matrix : List ℤ) (s : Scratch) where
   refused-limits e = rw e
 
   -- the test of the slices, which said r
-  module _ (e : wholeNet g ≡ true) {a p : ℕ} {r : Bool} (said : r ≡ longEnough (g .bound) a p matrix s) (room : a ≡ sizeOf g) (many : p ≡ width g) where
-    gave : longEnough (g .bound) (sizeOf g) (width g) matrix s ≡ r
+  module _ (e : wholeNet g ≡ true) {a p : ℕ} {r : Bool} (said : r ≡ longEnough (g .bound) a p matrix s) (room : a ≡ mostArcsOf g) (many : p ≡ width g) where
+    gave : longEnough (g .bound) (mostArcsOf g) (width g) matrix s ≡ r
     gave = sym (said ∙ (λ t. longEnough (g .bound) (room t) (many t) matrix s))
 
     pub refused-short : r ≡ false → 1 ≡ refusalNo g matrix s
@@ -45,40 +45,30 @@ module _ (g : Net ℤ) (matrix : List ℤ) (s : Scratch) where
   -- a refusal is what the promise says
   pub refused : (r : ℕ) → r ≡ refusalNo g matrix s → (r ≡ 0 → ⊥) → Promise g matrix s matrix s r
   unfolding refusalNo
-  refused r q f = go (enough g matrix s) (insideNet g) refl refl
-    where
-      go : (x y : Bool) → enough g matrix s ≡ x → insideNet g ≡ y → Promise g matrix s matrix s r
-      go false y e i = short (q ∙ rw e) e refl refl
-      go true false e i = outside (q ∙ rw (e, i)) e i refl refl
-      go true true e i = absurd (f (q ∙ rw (e, i)))
+  refused = pairs.refused g (enough g matrix s) (wipedAll (g .bound) (mostArcsOf g) s) (buffersOf matrix s)
 
   -- no refusal: nothing is too short, and each link is inside
   pub not-refused : refusalNo g matrix s ≡ 0 → (enough g matrix s ≡ true) × (insideNet g ≡ true)
   unfolding refusalNo
-  not-refused q = go (enough g matrix s) (insideNet g) refl refl
-    where
-      go : (x y : Bool) → enough g matrix s ≡ x → insideNet g ≡ y → (enough g matrix s ≡ true) × (insideNet g ≡ true)
-      go false y e i = absurd (let h : refusalNo g matrix s ≡ 1 = rw e in omega (arith, q, h))
-      go true false e i = absurd (let h : refusalNo g matrix s ≡ 2 = rw (e, i) in omega (arith, q, h))
-      go true true e i = (e, i)
+  not-refused = pairs.passed g (enough g matrix s) (wipedAll (g .bound) (mostArcsOf g) s) (buffersOf matrix s)
 
   module _ (ok : refusalNo g matrix s ≡ 0) where
     pub passed : Passed g matrix s
     unfolding longEnough
     passed =
         let m = g .bound in
-        let a = sizeOf g in
+        let a = mostArcsOf g in
         let e = not-refused ok .0 in
         let l = and-right (wholeNet g) _ e in
         let e1 = and-right (leb (width g * width g) (length matrix)) _ l in
-        let e2 = and-right (hasRoom m a (s .rows)) _ e1 in
+        let e2 = and-right (hasLists m a (s .rows)) _ e1 in
         record {
           whole = and-left (wholeNet g) _ e;
           inside = not-refused ok .1;
           output = leb-true _ _ (and-left (leb (width g * width g) (length matrix)) _ l);
           room = record {
             bounded = whole (g .bound) (g .count) (g .room) (g .marks) (and-left (wholeNet g) _ e) .indices;
-            rows = has-needs m a (s .rows) (and-left (hasRoom m a (s .rows)) _ e1);
+            rows = has-lists m a (s .rows) (and-left (hasLists m a (s .rows)) _ e1);
             heights = leb-true _ _ (and-left (leb m (length (s .heights))) _ e2);
             memory = has-memory m (s .memory) (and-right (leb m (length (s .heights))) _ e2);
           };

@@ -1,6 +1,6 @@
 -- What the potentials are for: costs shifted by them are at least 0 and small, and least totals of shifted costs, shifted back, are the least totals.
 -- Assumes nothing.
-use mathlib.Core.Path.{_≡_, refl, sym, _∙_, subst}
+use mathlib.Core.Path.{_≡_, refl, sym, subst}
 use mathlib.Core.Bool.{Bool, true, false}
 use mathlib.Core.List.{List}
 use mathlib.Core.Logic.{inl, inr}

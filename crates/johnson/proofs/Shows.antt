@@ -2,18 +2,18 @@
 -- What is found is not far from 0: no weight is below 0, and a least total has fewer arcs than there are indices.
 -- Assumes nothing.
 use mathlib.Core.Path.{_≡_, refl, sym, ap, _∙_, subst}
-use mathlib.Core.Bool.{Bool, true, false}
+use mathlib.Core.Bool.{true}
 use mathlib.Core.List.{List}
 use mathlib.Core.Logic.{inl, inr}
-use Prim.Native.Nat.{ℕ, suc, _+_, _*_, _≤_, _<_, _^_}
+use Prim.Native.Nat.{ℕ, _+_, _*_, _≤_, _<_, _^_}
 use native.Mathlib.Nat.{mul-le-mul-right}
 use native.Mathlib.Omega.{arith}
 use native.Mathlib.Decide.{ℕ-discrete}
-use lib.IntN.{ℤ, pos, negsuc}
-use lib.Signed.{ltZ, _≤ℤ_, _<ℤ_}
+use lib.IntN.{ℤ, pos}
+use lib.Signed.{_≤ℤ_, _<ℤ_}
 use lib.ListN.{length, getD, set, length-set}
 use lib.Seq.{getD-set-same, getD-set-other}
-use Rattle.whole.specs.Zed.{_⊕_, zed, Within}
+use Rattle.whole.specs.Zed.{zed, Within}
 use Rattle.whole.proofs.Cases.{clash}
 use Rattle.clean.specs.None.{noneI64}
 use Rattle.table.specs.Links.{present}
@@ -30,7 +30,7 @@ use Rattle.rows.specs.RowArc.{RowArc}
 use Rattle.turns.specs.Memory.{Memory}
 use Rattle.turns.specs.Firsts.{KeptMemory}
 use Rattle.turns.proofs.Firsts.{memory-none}
-use Rattle.search.specs.Runs.{Cheap, Reached, done, bad}
+use Rattle.search.specs.Runs.{Cheap, ToAll, done, bad}
 use Rattle.matrix.proofs.Matrix.{square-small, row-in, row-before}
 use Rattle.johnson.specs.Rounds.{label, Deep}
 use Rattle.johnson.specs.Shifting.{shiftedBack}
@@ -118,7 +118,7 @@ total-moderate w s v d l (inr q) t = let e : d ≡ noneI64 = q .0 in absurd (ome
 pub cheap : {m : ℕ} {nb : Lists ℤ} → Even m nb → Cheap m nb
 cheap w = record { rows = w .rows; cheap = w .cheap }
 
-pub found : {m s : ℕ} {nb : Lists ℤ} {before after : List ℤ} {no : ℕ} → Even m nb → Reached (RowArc m nb) m s before after no → Found m s nb after
+pub found : {m s : ℕ} {nb : Lists ℤ} {before after : List ℤ} {number : ℕ} → Even m nb → ToAll (RowArc m nb) m s before after number → Found m s nb after
 found w (done e n d) v h = d .each v (pos 0) h
 found w (bad e b) v h =
     let p : pos 0 ≤ℤ b .c = w .up (b .u) (b .v) (b .c) (b .arc-is) in

@@ -3,7 +3,7 @@
 -- there; it is in its range, since a least total has fewer arcs than the map has indices. With potentials no shifted arc is below zero, so no closed walk of the map
 -- is. Lent slices may be longer than the part used: what holds of the first entries is carried over to them.
 -- Assumes nothing.
-use mathlib.Core.Path.{_≡_, refl, sym, ap, _∙_, subst}
+use mathlib.Core.Path.{_≡_, refl, sym, ap, subst}
 use mathlib.Core.Bool.{Bool, true, false}
 use mathlib.Core.List.{List, [], _∷_, _++_}
 use Prim.Native.Nat.{ℕ, zero, suc, _+_, _*_, _≤_, _<_}
@@ -12,10 +12,9 @@ use lib.IntN.{ℤ, pos}
 use lib.ListN.{length, getD, take, drop, length-append, length-drop}
 use lib.Seq.{drop-at, length-take-le}
 use Rattle.whole.proofs.Cases.{clash}
-use Rattle.table.specs.Links.{present}
 use Rattle.walks.specs.Walk.{Negative, Entry, Total}
 use Rattle.walks.proofs.Over.{entry-of, total-over}
-use Rattle.net.specs.Net.{Net, ArcOf, insideNet, has, nodesOf, sizeOf, width}
+use Rattle.net.specs.Net.{Net, ArcOf, insideNet, has, nodesOf, width}
 use Rattle.net.proofs.Nodes.{node-marked, rank-of, width-most}
 use Rattle.net.proofs.Totals.{total-within}
 use Rattle.rows.specs.Rows.{Lists, listsOf}
@@ -26,7 +25,7 @@ use Rattle.turns.specs.Firsts.{KeptMemory}
 use Rattle.matrix.specs.Matrix.{square, Matrix}
 use Rattle.matrix.proofs.Matrix.{closed-up}
 use Rattle.johnson.specs.Promise.{Scratch, scratchOf}
-use Rattle.johnson.specs.Parts.{rank, CanFill, EntryShown, Filled, Ripe, Laid, KeptAll, Prepared, Passed, Solved}
+use Rattle.johnson.specs.Parts.{rank, CanFill, EntryShown, Filled, Ripe, Laid, Prepared, Passed, Solved}
 use Rattle.johnson.proofs.Sweeps.{none-below}
 use Rattle.johnson.proofs.Shifts.{total-back}
 use Rattle.turns.proofs.Firsts.{memory-none}
@@ -51,7 +50,8 @@ module _ {g : Net ℤ} {nb : Lists ℤ} {h : List ℤ} (laid : Laid g nb h) (ins
           let k = node-marked (has g) (g .bound) i a in
           let l = node-marked (has g) (g .bound) j b in
           subst (λ (x : ℕ). Entry (ArcOf g) (getD (nodesOf g) i 0) (getD (nodesOf g) j 0) (getD after (x * width g + j) (pos 0))) (rank-of (has g) (g .bound) i a)
-          (subst (λ (y : ℕ). Entry (ArcOf g) (getD (nodesOf g) i 0) (getD (nodesOf g) j 0) (getD after (rank (g .bound) (g .marks) (getD (nodesOf g) i 0) * width g + y) (pos 0))) (rank-of (has g) (g .bound) j b)
+          (subst (λ (y : ℕ). Entry (ArcOf g) (getD (nodesOf g) i 0) (getD (nodesOf g) j 0) (getD after (rank (g .bound) (g .marks) (getD (nodesOf g) i 0) * width g + y) (pos 0)))
+          (rank-of (has g) (g .bound) j b)
           (shown-entry _ _ _ (k .1) (w .each (getD (nodesOf g) i 0) (getD (nodesOf g) j 0) (k .0) (l .0) (k .1) (l .1))))
 
 -- ---- the part used of a slice
@@ -111,7 +111,8 @@ module _ {g : Net ℤ} {matrix : List ℤ} {s : Scratch} (p : Passed g matrix s)
         room = subst (λ (x : ℕ). x * x ≤ length matrix) (sym is) (p .output);
       }
 
-      pub solved-no : {matrix′ ds : List ℤ} {ps hp pl : List ℕ} {ks : List ℤ} → Filled m k m (g .marks) (listsOf os hs ws) (take m heights) matrix matrix′ → KeptMemory m (s .memory) (memoryOf ds ps hp pl ks)
+      pub solved-no : {matrix′ ds : List ℤ} {ps hp pl : List ℕ} {ks : List ℤ} → Filled m k m (g .marks) (listsOf os hs ws) (take m heights) matrix matrix′
+          → KeptMemory m (s .memory) (memoryOf ds ps hp pl ks)
           → Solved g matrix s matrix′ (scratchOf os hs ws heights ds ps hp pl ks) false
       solved-no {matrix′} f z =
           let f′ = subst (λ (x : ℕ). Filled m x m (g .marks) (listsOf os hs ws) (take m heights) matrix matrix′) is f in

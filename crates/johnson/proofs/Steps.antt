@@ -13,7 +13,8 @@ use lib.IntN.{ℤ}
 use lib.Signed.{_≤ℤ_}
 use lib.ListN.{length}
 use Rattle.whole.specs.Zed.{_⊕_, P, N, Cost32}
-use Rattle.johnson.specs.Rounds.{label, lowers, lowered, looked, Table, tail, head, cost, swept, rounds, Still, StillTo, Shallow, Linked, Deep, LinkRelaxed, forth, back, Tested, Swept, RoundsDone, TestedAll}
+use Rattle.johnson.specs.Rounds.{label, lowers, lowered, looked, Table, tail, head, cost, swept, rounds, Still, StillTo}
+use Rattle.johnson.specs.Rounds.{Shallow, Linked, Deep, LinkRelaxed, forth, back, Tested, Swept, RoundsDone, TestedAll}
 use Rattle.johnson.specs.Potentials.{Ask}
 use Rattle.johnson.proofs.Looks.{lowered-no, lowers-still, looked-one, looked-two, look-shallow, link-long, link-shallow}
 use Rattle.whole.proofs.Cases.{clash}
@@ -48,7 +49,9 @@ module _ {d : Bool} (u v : ℕ) (c : ℤ) (h : List ℤ) where
     looked-back q = record {
       leaves = both-leave;
       small = small;
-      quiet = λ z. let k = lowered-no v u c h1 (sym f2 ∙ z) in (g2 ∙ (k ∙ same), record { there = lowers-still u v c h (sym f1 ∙ q); return = λ y. subst (λ (l : List ℤ). label l u ≤ℤ label l v ⊕ c) same (lowers-still v u c h1 (sym f2 ∙ z)) });
+      quiet = λ z.
+          let k = lowered-no v u c h1 (sym f2 ∙ z) in
+          (g2 ∙ (k ∙ same), record { there = lowers-still u v c h (sym f1 ∙ q); return = λ y. subst (λ (l : List ℤ). label l u ≤ℤ label l v ⊕ c) same (lowers-still v u c h1 (sym f2 ∙ z)) });
     }
       where
         same : h1 ≡ h
@@ -82,22 +85,37 @@ pub record Sweeping (t : Table) (n : ℕ) (h₀ h : List ℤ) (k : ℕ) (fell : 
   pub quiet : fell ≡ false → (h ≡ h₀) × StillTo t k h₀
 
 pub sweep-starts : (t : Table) (n : ℕ) (h : List ℤ) → Sweeping t n h h 0 false
-sweep-starts t n h = record { some = omega arith; leaves = sym (swept-none t h); long = refl; shallow = λ i s. record { long = s .long; high = s .high; low = λ v. omega (arith, s .low v) }; quiet = λ e. (refl, λ j l. absurd (omega arith)) }
+sweep-starts t n h = record {
+  some = omega arith;
+  leaves = sym (swept-none t h);
+  long = refl;
+  shallow = λ i s. record { long = s .long; high = s .high; low = λ v. omega (arith, s .low v) };
+  quiet = λ e. (refl, λ j l. absurd (omega arith));
+}
 
 module _ {t : Table} {n : ℕ} {h₀ : List ℤ} (sound : Linked (length h₀) n t) where
   module _ (pre : Shallow (length h₀) (1023 * 16384) h₀) {h : List ℤ} {k : ℕ} {fell : Bool} (s : Sweeping t n h₀ h k fell) (l : k < n) where
     pub sweep-asks : ((tail t k < length h) × (head t k < length h)) × ((v : ℕ) → Deep (2 ^ 59) (label h v))
-    sweep-asks = let w = s .shallow (1023 * 16384) pre in ((omega (arith, sound .tails k l, s .long), omega (arith, sound .heads k l, s .long)), λ v. record { high = w .high v; low = omega (arith, w .low v, sound .few) })
+    sweep-asks =
+        let w = s .shallow (1023 * 16384) pre in
+        ((omega (arith, sound .tails k l, s .long), omega (arith, sound .heads k l, s .long)), λ v. record { high = w .high v; low = omega (arith, w .low v, sound .few) })
 
   module _ {h : List ℤ} {k : ℕ} {fell : Bool} (s : Sweeping t n h₀ h k fell) (l : k < n) where
     -- one link more; the round is quiet only if it was and this link is
-    pub sweep-next : {h′ : List ℤ} {r after : Bool} → LinkRelaxed (t .directed) (tail t k) (head t k) (cost t k) h h′ r → (after ≡ false → (fell ≡ false) × (r ≡ false)) → Sweeping t n h₀ h′ (k + 1) after
+    pub sweep-next : {h′ : List ℤ} {r after : Bool} → LinkRelaxed (t .directed) (tail t k) (head t k) (cost t k) h h′ r → (after ≡ false → (fell ≡ false) × (r ≡ false))
+        → Sweeping t n h₀ h′ (k + 1) after
     sweep-next {h′} w f = record {
       some = omega arith;
       leaves = w .leaves ∙ (ap (looked (t .directed) (tail t k) (head t k) (cost t k)) (s .leaves) ∙ sym (swept-more t k h₀));
       long = ap length (w .leaves) ∙ (link-long (t .directed) (tail t k) (head t k) (cost t k) h ∙ s .long);
-      shallow = λ i q. let z = link-shallow (t .directed) (tail t k) (head t k) (cost t k) h (omega (arith, sound .tails k l, s .long)) (omega (arith, sound .heads k l, s .long)) (w .small) (s .shallow i q) in subst (Shallow (length h₀) (i + (k + 1) * 2)) (sym (w .leaves)) (record { long = z .long; high = z .high; low = λ v. omega (arith, z .low v) });
-      quiet = λ e. let q = f e in let a = s .quiet (q .0) in let b = w .quiet (q .1) in (b .0 ∙ a .0, up-to {Q = λ (j : ℕ). Still (t .directed) (tail t j) (head t j) (cost t j) h₀} (a .1) (subst (Still (t .directed) (tail t k) (head t k) (cost t k)) (a .0) (b .1)));
+      shallow = λ i q.
+          let z = link-shallow (t .directed) (tail t k) (head t k) (cost t k) h (omega (arith, sound .tails k l, s .long)) (omega (arith, sound .heads k l, s .long)) (w .small) (s .shallow i q) in
+          subst (Shallow (length h₀) (i + (k + 1) * 2)) (sym (w .leaves)) (record { long = z .long; high = z .high; low = λ v. omega (arith, z .low v) });
+      quiet = λ e.
+          let q = f e in
+          let a = s .quiet (q .0) in
+          let b = w .quiet (q .1) in
+          (b .0 ∙ a .0, up-to {Q = λ (j : ℕ). Still (t .directed) (tail t j) (head t j) (cost t j) h₀} (a .1) (subst (Still (t .directed) (tail t k) (head t k) (cost t k)) (a .0) (b .1)));
     }
 
   pub sweep-ends : {h : List ℤ} {k : ℕ} {fell : Bool} → Sweeping t n h₀ h k fell → n ≤ k → Swept t n h₀ h fell
@@ -122,7 +140,9 @@ rounds-start t n p h s = record { first = omega arith; few = omega arith; leaves
 
 module _ {t : Table} {n p : ℕ} {h₀ h : List ℤ} {i : ℕ} (few : p ≤ 1024) (g : Going t n p h₀ h i) where
   pub round-asks : Linked (length h₀) n t → i < p → Linked (length h) n t × Shallow (length h) (1023 * 16384) h
-  round-asks sound l = subst (λ (m : ℕ). Linked m n t × Shallow m (1023 * 16384) h) (sym (g .shallow .long)) (sound, record { long = g .shallow .long; high = g .shallow .high; low = λ v. omega (arith, g .shallow .low v) })
+  round-asks sound l =
+      subst (λ (m : ℕ). Linked m n t × Shallow m (1023 * 16384) h) (sym (g .shallow .long))
+      (sound, record { long = g .shallow .long; high = g .shallow .high; low = λ v. omega (arith, g .shallow .low v) })
 
   module _ {h′ : List ℤ} {fell : Bool} (l : i < p) (w : Swept t n h h′ fell) where
     next-leaves : h′ ≡ rounds t n i h₀
@@ -136,13 +156,27 @@ module _ {t : Table} {n p : ℕ} {h₀ h : List ℤ} {i : ℕ} (few : p ≤ 1024
         record { long = z .long; high = z .high; low = λ v. omega (arith, z .low v, g .first) }
 
     pub rounds-next : Going t n p h₀ h′ (i + 1)
-    rounds-next = let e : i ≡ i + 1 - 1 = omega arith in record { first = omega arith; few = omega arith; leaves = next-leaves ∙ ap (λ (j : ℕ). rounds t n j h₀) e; shallow = subst (λ (j : ℕ). Shallow (length h₀) (j * 16384) h′) e next-shallow }
+    rounds-next =
+        let e : i ≡ i + 1 - 1 = omega arith in
+        record { first = omega arith; few = omega arith; leaves = next-leaves ∙ ap (λ (j : ℕ). rounds t n j h₀) e; shallow = subst (λ (j : ℕ). Shallow (length h₀) (j * 16384) h′) e next-shallow }
 
     pub rounds-stop : fell ≡ false → RoundsDone t n p h₀ h′
-    rounds-stop q = record { made = i; leaves = next-leaves; shallow = record { long = next-shallow .long; high = next-shallow .high; low = λ v. omega (arith, next-shallow .low v) }; few = omega arith; enough = λ k. w .quiet q }
+    rounds-stop q = record {
+      made = i;
+      leaves = next-leaves;
+      shallow = record { long = next-shallow .long; high = next-shallow .high; low = λ v. omega (arith, next-shallow .low v) };
+      few = omega arith;
+      enough = λ k. w .quiet q;
+    }
 
   pub rounds-end : p ≤ i → RoundsDone t n p h₀ h
-  rounds-end l = record { made = i - 1; leaves = g .leaves; shallow = record { long = g .shallow .long; high = g .shallow .high; low = λ v. omega (arith, g .shallow .low v, g .few) }; few = g .few; enough = λ k. absurd (omega arith) }
+  rounds-end l = record {
+    made = i - 1;
+    leaves = g .leaves;
+    shallow = record { long = g .shallow .long; high = g .shallow .high; low = λ v. omega (arith, g .shallow .low v, g .few) };
+    few = g .few;
+    enough = λ k. absurd (omega arith);
+  }
 
 -- ---- the test
 -- no link of the first k lowers a potential
@@ -159,13 +193,21 @@ module _ {t : Table} {n k : ℕ} {h : List ℤ} (s : Testing t n k h) where
   test-asks sound w l = ((sound .tails k l, sound .heads k l), λ v. record { high = w .high v; low = omega (arith, w .low v) })
 
   pub test-next : k < n → {r : Bool} → Tested (t .directed) (tail t k) (head t k) (cost t k) h r → r ≡ false → Testing t n (k + 1) h
-  test-next l w e = let q = w .still e in record { some = omega arith; still = up-to {Q = λ (j : ℕ). Still (t .directed) (tail t j) (head t j) (cost t j) h} (s .still) (q .0); small = up-to {Q = λ (j : ℕ). Cost32 (cost t j)} (s .small) (q .1) }
+  test-next l w e =
+      let q = w .still e in
+      record {
+        some = omega arith;
+        still = up-to {Q = λ (j : ℕ). Still (t .directed) (tail t j) (head t j) (cost t j) h} (s .still) (q .0);
+        small = up-to {Q = λ (j : ℕ). Cost32 (cost t j)} (s .small) (q .1);
+      }
 
   pub test-stops : k < n → {r : Bool} → Tested (t .directed) (tail t k) (head t k) (cost t k) h r → r ≡ true → TestedAll t n h true
   test-stops l w e = record { improves = λ z. record { at = k; within = l; improves = w .improves e }; still = λ z. absurd (clash refl z) }
 
   pub test-ends : n ≤ k → TestedAll t n h false
-  test-ends l = let e : k ≡ n = omega (arith, s .some) in record { improves = λ z. absurd (clash z refl); still = λ z. (subst (λ (i : ℕ). StillTo t i h) e (s .still), subst (λ (i : ℕ). (j : ℕ) → j < i → Cost32 (cost t j)) e (s .small)) }
+  test-ends l =
+      let e : k ≡ n = omega (arith, s .some) in
+      record { improves = λ z. absurd (clash z refl); still = λ z. (subst (λ (i : ℕ). StillTo t i h) e (s .still), subst (λ (i : ℕ). (j : ℕ) → j < i → Cost32 (cost t j)) e (s .small)) }
 
 -- before the rounds
 pub ask-shallow : {t : Table} {n p : ℕ} {h : List ℤ} → Ask t n p h → Shallow (length h) 0 h

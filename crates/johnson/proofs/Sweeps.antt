@@ -20,7 +20,7 @@ use Rattle.walks.specs.Walk.{Walk, stay, step, Negative}
 use Rattle.walks.proofs.Walk.{join, arc, arcs, few, bounded}
 use Rattle.walks.proofs.Cheap.{Simple, simple-or}
 use Rattle.walks.specs.Costs.{Costs32}
-use Rattle.johnson.specs.Rounds.{label, lowers, looked, Table, tail, head, cost, swept, rounds, Reached, StillTo, Linked}
+use Rattle.johnson.specs.Rounds.{label, lowers, looked, Table, tail, head, cost, swept, rounds, Bounded, StillTo, Linked}
 use Rattle.johnson.specs.Potentials.{Resting}
 use Rattle.johnson.proofs.Looks.{Came, lowers-below, link-long, link-falls, link-reaches, link-came}
 
@@ -64,11 +64,12 @@ module _ {m n : ℕ} {t : Table} (sound : Linked m n t) where
     swept-falls zero l x = omega (arith, zed)
     swept-falls (suc k) l x =
         let p : label (swept t k h) x ≤ℤ label h x = swept-falls k (omega arith) x in
-        let q : label (looked (t .directed) (tail t k) (head t k) (cost t k) (swept t k h)) x ≤ℤ label (swept t k h) x = link-falls (t .directed) (tail t k) (head t k) (cost t k) (swept t k h) (tail-below k (omega arith)) (head-below k (omega arith)) x in
+        let q : label (looked (t .directed) (tail t k) (head t k) (cost t k) (swept t k h)) x ≤ℤ label (swept t k h) x =
+        link-falls (t .directed) (tail t k) (head t k) (cost t k) (swept t k h) (tail-below k (omega arith)) (head-below k (omega arith)) x in
         omega (arith, zed)
 
     -- a round reaches over each link
-    pub swept-reaches : (k : ℕ) → k ≤ n → (j : ℕ) → j < k → Reached (t .directed) (tail t j) (head t j) (cost t j) h (swept t k h)
+    pub swept-reaches : (k : ℕ) → k ≤ n → (j : ℕ) → j < k → Bounded (t .directed) (tail t j) (head t j) (cost t j) h (swept t k h)
     unfolding swept
     swept-reaches zero l j i = absurd (omega arith)
     swept-reaches (suc k) l j i = go (ℕ-discrete j k) (λ q. swept-reaches k (omega arith) j q)
@@ -82,16 +83,24 @@ module _ {m n : ℕ} {t : Table} (sound : Linked m n t) where
         since : (a b c x : ℤ) → a ≤ℤ b ⊕ c → b ≤ℤ x → a ≤ℤ x ⊕ c
         since a b c x p q = omega (arith, zed, sum b c, sum x c)
 
-        go : Dec (j ≡ k) → (j < k → Reached (t .directed) (tail t j) (head t j) (cost t j) h (swept t k h)) → Reached (t .directed) (tail t j) (head t j) (cost t j) h (looked (t .directed) (tail t k) (head t k) (cost t k) (swept t k h))
+        go : Dec (j ≡ k) → (j < k → Bounded (t .directed) (tail t j) (head t j) (cost t j) h (swept t k h))
+            → Bounded (t .directed) (tail t j) (head t j) (cost t j) h (looked (t .directed) (tail t k) (head t k) (cost t k) (swept t k h))
         go (yes e) r =
             let w = link-reaches (t .directed) (tail t k) (head t k) (cost t k) (swept t k h) (tail-below k (omega arith)) (head-below k (omega arith)) in
-            rw e (record { there = since _ (label (swept t k h) (tail t k)) (cost t k) _ (w .there) (swept-falls k (omega arith) (tail t k)); return = λ d. since _ (label (swept t k h) (head t k)) (cost t k) _ (w .return d) (swept-falls k (omega arith) (head t k)) })
+            rw e
+            (record {
+              there = since _ (label (swept t k h) (tail t k)) (cost t k) _ (w .there) (swept-falls k (omega arith) (tail t k));
+              return = λ d. since _ (label (swept t k h) (head t k)) (cost t k) _ (w .return d) (swept-falls k (omega arith) (head t k));
+            })
         go (no f) r = let w = r (omega (arith, f)) in record { there = on (head t j) (w .there); return = λ d. on (tail t j) (w .return d) }
 
-    pub swept-came : {Arc : ℕ → ℕ → ℤ → Type 0} → ((k : ℕ) → k < n → Arc (tail t k) (head t k) (cost t k)) → ((k : ℕ) → k < n → t .directed ≡ false → Arc (head t k) (tail t k) (cost t k)) → Came Arc h → (k : ℕ) → k ≤ n → Came Arc (swept t k h)
+    pub swept-came : {Arc : ℕ → ℕ → ℤ → Type 0} → ((k : ℕ) → k < n → Arc (tail t k) (head t k) (cost t k)) → ((k : ℕ) → k < n → t .directed ≡ false → Arc (head t k) (tail t k) (cost t k)) → Came Arc h
+        → (k : ℕ) → k ≤ n → Came Arc (swept t k h)
     unfolding swept
     swept-came a b w zero l = w
-    swept-came a b w (suc k) l = link-came (t .directed) (tail t k) (head t k) (cost t k) (swept t k h) (tail-below k (omega arith)) (head-below k (omega arith)) (a k (omega arith)) (b k (omega arith)) (swept-came a b w k (omega arith))
+    swept-came a b w (suc k) l =
+        link-came (t .directed) (tail t k) (head t k) (cost t k) (swept t k h) (tail-below k (omega arith)) (head-below k (omega arith)) (a k (omega arith)) (b k (omega arith))
+        (swept-came a b w k (omega arith))
 
   rounds-long : (r : ℕ) (h : List ℤ) → length (rounds t n r h) ≡ length h
   unfolding rounds
@@ -120,7 +129,7 @@ pub record Arcs (Arc : ℕ → ℕ → ℤ → Type 0) (t : Table) (n : ℕ) : T
   pub place : (u v : ℕ) (c : ℤ) → Arc u v c → Placed t n u v c
 
 module _ {n : ℕ} {t : Table} {Arc : ℕ → ℕ → ℤ → Type 0} (arcsOf : Arcs Arc t n) where
-  reached-arc : (h h′ : List ℤ) → ((j : ℕ) → j < n → Reached (t .directed) (tail t j) (head t j) (cost t j) h h′) → (u v : ℕ) (c : ℤ) → Arc u v c → label h′ v ≤ℤ label h u ⊕ c
+  reached-arc : (h h′ : List ℤ) → ((j : ℕ) → j < n → Bounded (t .directed) (tail t j) (head t j) (cost t j) h h′) → (u v : ℕ) (c : ℤ) → Arc u v c → label h′ v ≤ℤ label h u ⊕ c
   reached-arc h h′ r u v c a = go (arcsOf .place u v c a)
     where
       go : Placed t n u v c → label h′ v ≤ℤ label h u ⊕ c

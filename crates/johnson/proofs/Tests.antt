@@ -2,7 +2,7 @@
 -- Assumes nothing.
 use mathlib.Core.Path.{_≡_, refl, sym, ap, _∙_, subst}
 use mathlib.Core.Bool.{Bool, true, false}
-use mathlib.Core.List.{List, [], _∷_}
+use mathlib.Core.List.{List}
 use mathlib.Core.Logic.{_⊎_, inl, inr, ⊎-elim}
 use Prim.Native.Nat.{ℕ, zero, suc, _-_, _*_, _≤_, _<_, _^_}
 use native.Mathlib.Omega.{arith}
@@ -17,7 +17,7 @@ use Rattle.table.proofs.Joins.{joined, joins-of}
 use Rattle.table.proofs.Arcs.{arc-at, arc-out}
 use Rattle.walks.specs.Walk.{stay, Negative}
 use Rattle.walks.specs.Costs.{Costs32}
-use Rattle.johnson.specs.Rounds.{label, lowers, Table, tail, head, cost, rounds, StillTo, Shallow, Linked, Improves, forth, back, RoundsDone, OpenTo, TestedAll}
+use Rattle.johnson.specs.Rounds.{label, lowers, Table, tail, head, cost, StillTo, Shallow, Linked, Improves, forth, back, RoundsDone, OpenTo, TestedAll}
 use Rattle.johnson.specs.Potentials.{ArcsOf, Resting, Ask, Answered}
 use Rattle.johnson.proofs.Looks.{Came, lowers-below}
 use Rattle.johnson.proofs.Sweeps.{Placed, Arcs, still-resting, each-cost, rounds-came, open-negative, settled-low}
@@ -28,28 +28,28 @@ abbrev none : Link ℤ
 none = linkOf 0 0 (pos 0)
 
 module _ {m n : ℕ} {t : Table} (linked : Linked m n t) where
-  abbrev places : List (Link ℤ)
-  places = zip3 (t .tails) (t .heads) (t .costs)
+  abbrev words : List (Link ℤ)
+  words = zip3 (t .tails) (t .heads) (t .costs)
 
-  link-is : (k : ℕ) → k < n → getD places k none ≡ linkOf (tail t k) (head t k) (cost t k)
+  link-is : (k : ℕ) → k < n → getD words k none ≡ linkOf (tail t k) (head t k) (cost t k)
   link-is k l = zip-at (t .tails) (t .heads) (t .costs) none k (omega (arith, linked .roomA)) (omega (arith, linked .roomB)) (omega (arith, linked .roomC))
 
-  long : n ≤ length places
+  long : n ≤ length words
   long = zip-long (t .tails) (t .heads) (t .costs) n (linked .roomA) (linked .roomB) (linked .roomC)
 
   arc-of : (k : ℕ) → k < n → (u v : ℕ) → ((tail t k ≡ u) × (head t k ≡ v)) ⊎ ((t .directed ≡ false) × (tail t k ≡ v) × (head t k ≡ u)) → ArcsOf t n u v (cost t k)
   arc-of k l u v e =
       let w = link-is k l in
-      arc-at (t .directed) places none k n u v (cost t k) l (omega (arith, long))
+      arc-at (t .directed) words none k n u v (cost t k) l (omega (arith, long))
       (subst (λ (x : Link ℤ). joins (t .directed) u v x ≡ true) (sym w) (joins-of (t .directed) u v (linkOf (tail t k) (head t k) (cost t k)) e))
       (ap (λ (x : Link ℤ). x .cost) w)
 
   -- the last of the first k links, or one before it
-  place : (k : ℕ) → k ≤ n → (u v : ℕ) (c : ℤ) → Arc (t .directed) (take k places) u v c → Placed t n u v c
+  place : (k : ℕ) → k ≤ n → (u v : ℕ) (c : ℤ) → Arc (t .directed) (take k words) u v c → Placed t n u v c
   place zero h u v c a = absurd a
-  place (suc k) h u v c a = ⊎-elim (place k (omega arith) u v c) at (arc-out (t .directed) places none k u v c a)
+  place (suc k) h u v c a = ⊎-elim (place k (omega arith) u v c) at (arc-out (t .directed) words none k u v c a)
     where
-      at : (joins (t .directed) u v (getD places k none) ≡ true) × (getD places k none .cost ≡ c) → Placed t n u v c
+      at : (joins (t .directed) u v (getD words k none) ≡ true) × (getD words k none .cost ≡ c) → Placed t n u v c
       at q =
           let w = link-is k (omega arith) in
           record {
@@ -75,7 +75,9 @@ module _ {t : Table} {n p : ℕ} {h h′ : List ℤ} (ask : Ask t n p h) (done :
       go (yes l) =
           let k : label h′ v ≤ℤ label h′ u ⊕ c = still-resting arcs h′ (done .enough l) u v c a in
           absurd (omega (arith, zed, lowers-below u v c h′ e))
-      go (no f) = open-negative (ask .indices) (ask .ends) arcs (ask .sound) h refl (ask .zeros) (done .made) (omega (arith, f, ask .many)) u v c a (subst (λ (l : List ℤ). lowers u v c l ≡ true) (done .leaves) e)
+      go (no f) =
+          open-negative (ask .indices) (ask .ends) arcs (ask .sound) h refl (ask .zeros) (done .made) (omega (arith, f, ask .many)) u v c a
+          (subst (λ (l : List ℤ). lowers u v c l ≡ true) (done .leaves) e)
 
   -- the test found a link that lowers a potential
   pub answer-yes : OpenTo t n h′ → Answered t n p h h′ true
@@ -90,7 +92,13 @@ module _ {t : Table} {n p : ℕ} {h h′ : List ℤ} (ask : Ask t n p h) (done :
   answer-no still small = record {
     long = done .shallow .long;
     yes = λ e. absurd (let z : _≡_ {A = ℕ} 0 1 = cc in omega arith);
-    no = λ e. record { resting = resting; high = done .shallow .high; low = λ v. subst (λ (q : ℕ). N (label h′ v) ≤ (q - 1) * 2 ^ 31) (ask .many) (settled-low (ask .indices) (ask .ends) h′ resting came costs (done .shallow .high) v); small = costs };
+    no = λ e.
+        record {
+          resting = resting;
+          high = done .shallow .high;
+          low = λ v. subst (λ (q : ℕ). N (label h′ v) ≤ (q - 1) * 2 ^ 31) (ask .many) (settled-low (ask .indices) (ask .ends) h′ resting came costs (done .shallow .high) v);
+          small = costs;
+        };
   }
     where
       resting : Resting (ArcsOf t n) h′

@@ -1,27 +1,28 @@
 -- What the parts of the public function promise each other: a row of the matrix, all rows, the shifted list, the map solved.
 -- Assumes nothing.
 use mathlib.Core.Path.{_≡_}
-use mathlib.Core.Bool.{Bool, true, false, cond}
+use mathlib.Core.Bool.{Bool, true, false}
 use mathlib.Core.List.{List}
 use Prim.Native.Nat.{ℕ, _+_, _*_, _≤_, _<_, _^_}
 use lib.IntN.{ℤ, pos}
 use lib.Signed.{ltZ, _≤ℤ_}
 use lib.ListN.{length, getD}
 use Rattle.whole.specs.Zed.{P, Within}
+use Rattle.numbers.specs.Numbers.{firstNo}
 use Rattle.clean.specs.None.{noneI64}
 use Rattle.table.specs.Links.{present}
 use Rattle.walks.specs.Walk.{Negative, Total}
 use Rattle.walks.specs.Shift.{Shifted}
-use Rattle.net.specs.Net.{Net, ArcOf, wholeNet, insideNet, sizeOf, rising, width}
+use Rattle.net.specs.Net.{Net, ArcOf, wholeNet, insideNet, mostArcsOf, rising, width}
 use Rattle.rows.specs.Rows.{Lists}
 use Rattle.rows.specs.RowArc.{RowArc, Sound}
-use Rattle.rows.specs.Kept.{Kept, KeptLists, Needs}
-use Rattle.turns.specs.Firsts.{Roomy, KeptMemory}
+use Rattle.rows.specs.Kept.{Kept, KeptLists, EnoughLists}
+use Rattle.turns.specs.Firsts.{EnoughMemory, KeptMemory}
 use Rattle.matrix.specs.Matrix.{square, Matrix}
 use Rattle.johnson.specs.Rounds.{label, Deep}
 use Rattle.johnson.specs.Potentials.{Potentials}
 use Rattle.johnson.specs.Shifting.{shiftedBack}
-use Rattle.johnson.specs.Promise.{Scratch, enough}
+use Rattle.johnson.specs.Promise.{Scratch, table}
 
 -- ---- what a search finds
 -- a neighbour list of m indices whose weights are shifted: at least 0, and at most 2^41
@@ -81,19 +82,21 @@ pub record EntryShown (m : ℕ) (nb : Lists ℤ) (h : List ℤ) (u v : ℕ) (x :
 -- the rows of the present ones of the first k indices; what is past the square is as it was
 pub record Filled (m p k : ℕ) (marks : List ℕ) (nb : Lists ℤ) (h before after : List ℤ) : Type 0 where
   pub long : length after ≡ length before
-  pub each : (u v : ℕ) → u < k → v < m → present m marks u ≡ true → present m marks v ≡ true → EntryShown m nb h u v (getD after (rank m marks u * p + rank m marks v) (pos 0))
+  pub each : (u v : ℕ) → u < k → v < m → present m marks u ≡ true → present m marks v ≡ true
+      → EntryShown m nb h u v (getD after (rank m marks u * p + rank m marks v) (pos 0))
   pub rest : (x : ℕ) → p * p ≤ x → getD after x (pos 0) ≡ getD before x (pos 0)
 
 -- the row of u added, if u is present
 abbrev pub RowMade : ℕ → ℕ → ℕ → List ℕ → Lists ℤ → List ℤ → List ℤ → List ℤ → Type 0
-RowMade m p u marks nb h matrix matrix′ = (before : List ℤ) → Filled m p u marks nb h before matrix → Filled m p (u + 1) marks nb h before matrix′
+RowMade m p u marks nb h matrix matrix′ =
+    (before : List ℤ) → Filled m p u marks nb h before matrix → Filled m p (u + 1) marks nb h before matrix′
 
 -- ---- the shifted list
 -- what a map and its neighbour list must be
 pub record Ripe (g : Net ℤ) (s : Lists ℤ) (h : List ℤ) : Type 0 where
   pub whole : wholeNet g ≡ true
   pub inside : insideNet g ≡ true
-  pub rows : Needs (g .bound) (sizeOf g) s
+  pub rows : EnoughLists (g .bound) (mostArcsOf g) s
   pub heights : length h ≡ g .bound
 
 -- potentials, and the map's arcs shifted by them in the neighbour list
@@ -106,28 +109,28 @@ pub record Laid (g : Net ℤ) (nb : Lists ℤ) (h : List ℤ) : Type 0 where
 -- is some closed walk below zero? If not, the list is laid
 pub record Prepared (g : Net ℤ) (s s′ : Lists ℤ) (h′ : List ℤ) (negative : Bool) : Type 0 where
   pub long : length h′ ≡ g .bound
-  pub kept : KeptLists (g .bound) (sizeOf g) s s′
+  pub kept : KeptLists (g .bound) (mostArcsOf g) s s′
   pub yes : negative ≡ true → Negative (ArcOf g)
   pub no : negative ≡ false → Laid g s′ h′
 
 -- ---- the public function's parts
 -- refusal 1, then 2, else 0
 unfoldable pub refusalNo : Net ℤ → List ℤ → Scratch → ℕ
-refusalNo g matrix s = cond (enough g matrix s) (cond (insideNet g) 0 2) 1
+refusalNo g matrix s = firstNo 2 (table g matrix s)
 
 -- the scratch is as long as the part used
-pub record Room (m a : ℕ) (s : Scratch) : Type 0 where
+pub record EnoughScratch (m a : ℕ) (s : Scratch) : Type 0 where
   pub bounded : m ≤ 1024
-  pub rows : Needs m a (s .rows)
+  pub rows : EnoughLists m a (s .rows)
   pub heights : m ≤ length (s .heights)
-  pub memory : Roomy m (s .memory)
+  pub memory : EnoughMemory m (s .memory)
 
 -- what a call that is not refused was lent
 pub record Passed (g : Net ℤ) (matrix : List ℤ) (s : Scratch) : Type 0 where
   pub whole : wholeNet g ≡ true
   pub inside : insideNet g ≡ true
   pub output : square g ≤ length matrix
-  pub room : Room (g .bound) (sizeOf g) s
+  pub room : EnoughScratch (g .bound) (mostArcsOf g) s
 
 -- the scratch past the parts used is as it was
 pub record KeptAll (m a : ℕ) (s s′ : Scratch) : Type 0 where
@@ -137,7 +140,7 @@ pub record KeptAll (m a : ℕ) (s s′ : Scratch) : Type 0 where
 
 -- a map solved: is some closed walk below zero? If not, the matrix holds the least totals
 pub record Solved (g : Net ℤ) (matrix : List ℤ) (s : Scratch) (matrix′ : List ℤ) (s′ : Scratch) (negative : Bool) : Type 0 where
-  pub kept : KeptAll (g .bound) (sizeOf g) s s′
+  pub kept : KeptAll (g .bound) (mostArcsOf g) s s′
   pub output : Kept (square g) matrix matrix′
   pub yes : negative ≡ true → Negative (ArcOf g)
   pub no : negative ≡ false → (Negative (ArcOf g) → ⊥) × Matrix g matrix matrix′

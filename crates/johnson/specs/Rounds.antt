@@ -1,7 +1,7 @@
 -- Potentials as lists: one arc, one link, one round over the links in table order, and some rounds, each in place.
 -- Assumes nothing.
 use mathlib.Core.Path.{_≡_}
-use mathlib.Core.Bool.{Bool, true, false, cond, not}
+use mathlib.Core.Bool.{Bool, true, false, cond}
 use mathlib.Core.List.{List}
 use Prim.Native.Nat.{ℕ, zero, suc, _+_, _-_, _*_, _≤_, _<_, _^_}
 use lib.IntN.{ℤ, pos}
@@ -56,13 +56,13 @@ rounds t n zero h = h
 rounds t n (suc r) h = swept t n (rounds t n r h)
 
 -- a link between u and v: what the potentials h become, h′, is at most what its arcs give from h
-pub record Reached (d : Bool) (u v : ℕ) (c : ℤ) (h h′ : List ℤ) : Type 0 where
+pub record Bounded (d : Bool) (u v : ℕ) (c : ℤ) (h h′ : List ℤ) : Type 0 where
   pub there : label h′ v ≤ℤ label h u ⊕ c
   pub return : d ≡ false → label h′ u ≤ℤ label h v ⊕ c
 
 -- no arc of the link lowers a potential
 abbrev pub Still : Bool → ℕ → ℕ → ℤ → List ℤ → Type 0
-Still d u v c h = Reached d u v c h h
+Still d u v c h = Bounded d u v c h h
 
 -- no arc of the first k links does
 abbrev pub StillTo : Table → ℕ → List ℤ → Type 0

@@ -39,7 +39,8 @@ pub record Listed (m u : ℕ) (nb : Lists ℤ) (h : List ℤ) : Type 0 where
 -- the weights ws of the list nb, shifted at the places below k; the rest is as it was
 pub record ShiftedTo (m : ℕ) (nb : Lists ℤ) (h ws : List ℤ) (k : ℕ) : Type 0 where
   pub long : length ws ≡ length (nb .weights)
-  pub each : (u j : ℕ) → u < m → start nb u ≤ j → j < start nb (u + 1) → j < k → getD ws j (pos 0) ≡ shiftedCost h u (getD (nb .heads) j 0) (getD (nb .weights) j (pos 0))
+  pub each : (u j : ℕ) → u < m → start nb u ≤ j → j < start nb (u + 1) → j < k
+      → getD ws j (pos 0) ≡ shiftedCost h u (getD (nb .heads) j 0) (getD (nb .weights) j (pos 0))
   pub rest : (j : ℕ) → k ≤ j → getD ws j (pos 0) ≡ getD (nb .weights) j (pos 0)
 
 -- the row of u shifted, after the rows before it

@@ -1,24 +1,28 @@
-// All-pairs totals by potentials: rounds over all arcs, the test for a closed walk below zero, then one search per index over shifted costs.
+// All-pairs totals by potentials: rounds over all arcs,
+// the test for a closed walk below zero, then one search per index over shifted costs.
 use table::Map;
 ghost use mathlib.Core.Path.{_≡_};
 ghost use Prim.Native.Nat.{ℕ, _+_, _*_, _≤_, _<_, _^_};
 ghost use lib.IntN.{pos};
 ghost use lib.ListN.{length, getD, set};
 ghost use Rattle.whole.specs.Zed.{_⊕_, Cost32};
-ghost use Rattle.johnson.specs.Rounds.{label, lowers, lowered, tableOf, Shallow, Linked, Deep, LinkRelaxed, Swept, Tested, RoundsDone, TestedAll};
+ghost use Rattle.johnson.specs.Rounds.{label, lowers, lowered, tableOf, Shallow, Linked, Deep};
+ghost use Rattle.johnson.specs.Rounds.{LinkRelaxed, Swept, Tested, RoundsDone, TestedAll};
 ghost use Rattle.johnson.specs.Potentials.{Ask, Answered};
 ghost use Rattle.rows.specs.Rows.{listsOf};
 ghost use Rattle.net.specs.Net.{netOf};
 ghost use Rattle.johnson.specs.Shifting.{shiftedCost, shiftedBack, Listed, ShiftedTo, RowShifted};
 ghost use Rattle.johnson.specs.Promise.{Promise, scratchOf, longEnough, wipedAll};
 ghost use Rattle.turns.specs.Memory.{memoryOf};
-ghost use Rattle.turns.specs.Firsts.{Roomy, KeptMemory};
-ghost use Rattle.johnson.specs.Parts.{rank, Moderate, CanShow, RowShown, CanFill, Filled, RowMade, Ripe, Prepared, refusalNo, Room, Passed, Solved};
+ghost use Rattle.turns.specs.Firsts.{EnoughMemory, KeptMemory};
+ghost use Rattle.johnson.specs.Parts.{rank, Moderate, CanShow, RowShown, CanFill, Filled, RowMade};
+ghost use Rattle.johnson.specs.Parts.{Ripe, Prepared, refusalNo, EnoughScratch, Passed, Solved};
 
 // The potential of u and the cost at k, added.
 fn sum_at(heights: &[i64], costs: &[i32], k: usize, u: usize) -> i64
     requires { ⌜ (k < length (now costs)) × (u < length (now heights)) × Deep (2 ^ 60) (label (now heights) u) ⌝ }
-    ensures { λ r. ⌜ (r ≡ label (now (heights .entry)) u ⊕ getD (now (costs .entry)) k (pos 0)) × Cost32 (getD (now (costs .entry)) k (pos 0)) ⌝ }
+    ensures { λ r. ⌜ (r ≡ label (now (heights .entry)) u ⊕ getD (now (costs .entry)) k (pos 0))
+        × Cost32 (getD (now (costs .entry)) k (pos 0)) ⌝ }
 {
     let d = heights[u];
     d + costs[k] as i64
@@ -26,8 +30,10 @@ fn sum_at(heights: &[i64], costs: &[i32], k: usize, u: usize) -> i64
 
 // Would the arc from u to v, of the cost at k, lower the potential of v?
 fn improves(heights: &[i64], costs: &[i32], k: usize, u: usize, v: usize) -> bool
-    requires { ⌜ (k < length (now costs)) × (u < length (now heights)) × (v < length (now heights)) × Deep (2 ^ 60) (label (now heights) u) ⌝ }
-    ensures { λ r. ⌜ (r ≡ lowers u v (getD (now (costs .entry)) k (pos 0)) (now (heights .entry))) × Cost32 (getD (now (costs .entry)) k (pos 0)) ⌝ }
+    requires { ⌜ (k < length (now costs)) × (u < length (now heights)) × (v < length (now heights))
+        × Deep (2 ^ 60) (label (now heights) u) ⌝ }
+    ensures { λ r. ⌜ (r ≡ lowers u v (getD (now (costs .entry)) k (pos 0)) (now (heights .entry)))
+        × Cost32 (getD (now (costs .entry)) k (pos 0)) ⌝ }
 {
     let n = sum_at(heights, costs, k, u);
     whole::lower(n, heights[v])
@@ -35,8 +41,11 @@ fn improves(heights: &[i64], costs: &[i32], k: usize, u: usize, v: usize) -> boo
 
 // A look at that arc: the potential of v falls, or stays.
 fn relax(heights: &mut [i64], costs: &[i32], k: usize, u: usize, v: usize) -> bool
-    requires { ⌜ (k < length (now costs)) × (u < length (now heights)) × (v < length (now heights)) × Deep (2 ^ 60) (label (now heights) u) ⌝ }
-    ensures { λ r. ⌜ (r ≡ lowers u v (getD (now (costs .entry)) k (pos 0)) (now (heights .entry))) × Cost32 (getD (now (costs .entry)) k (pos 0)) × (now (heights .exit) ≡ lowered u v (getD (now (costs .entry)) k (pos 0)) (now (heights .entry))) ⌝ }
+    requires { ⌜ (k < length (now costs)) × (u < length (now heights)) × (v < length (now heights))
+        × Deep (2 ^ 60) (label (now heights) u) ⌝ }
+    ensures { λ r. ⌜ (r ≡ lowers u v (getD (now (costs .entry)) k (pos 0)) (now (heights .entry)))
+        × Cost32 (getD (now (costs .entry)) k (pos 0))
+        × (now (heights .exit) ≡ lowered u v (getD (now (costs .entry)) k (pos 0)) (now (heights .entry))) ⌝ }
 {
     let n = sum_at(heights, costs, k, u);
     if !whole::lower(n, heights[v]) {
@@ -55,8 +64,10 @@ fn relax_link(
     k: usize,
     heights: &mut [i64],
 ) -> bool
-    requires { ⌜ (k < length (now from)) × (k < length (now to)) × (k < length (now costs)) × (getD (now from) k 0 < length (now heights)) × (getD (now to) k 0 < length (now heights)) × ((v : ℕ) → Deep (2 ^ 59) (label (now heights) v)) ⌝ }
-    ensures { λ r. ⌜ LinkRelaxed directed (getD (now (from .entry)) k 0) (getD (now (to .entry)) k 0) (getD (now (costs .entry)) k (pos 0)) (now (heights .entry)) (now (heights .exit)) r ⌝ }
+    requires { ⌜ (k < length (now from)) × (k < length (now to)) × (k < length (now costs)) × (getD (now from) k 0 < length (now heights))
+        × (getD (now to) k 0 < length (now heights)) × ((v : ℕ) → Deep (2 ^ 59) (label (now heights) v)) ⌝ }
+    ensures { λ r. ⌜ LinkRelaxed directed (getD (now (from .entry)) k 0) (getD (now (to .entry)) k 0) (getD (now (costs .entry)) k (pos 0))
+        (now (heights .entry)) (now (heights .exit)) r ⌝ }
 {
     let u = from[k] as usize;
     let v = to[k] as usize;
@@ -80,8 +91,10 @@ fn round(
     costs: &[i32],
     heights: &mut [i64],
 ) -> bool
-    requires { ⌜ Linked (length (now heights)) n (tableOf directed (now from) (now to) (now costs)) × Shallow (length (now heights)) (1023 * 16384) (now heights) ⌝ }
-    ensures { λ r. ⌜ Swept (tableOf directed (now (from .entry)) (now (to .entry)) (now (costs .entry))) n (now (heights .entry)) (now (heights .exit)) r ⌝ }
+    requires { ⌜ Linked (length (now heights)) n (tableOf directed (now from) (now to) (now costs))
+        × Shallow (length (now heights)) (1023 * 16384) (now heights) ⌝ }
+    ensures { λ r. ⌜ Swept
+        (tableOf directed (now (from .entry)) (now (to .entry)) (now (costs .entry))) n (now (heights .entry)) (now (heights .exit)) r ⌝ }
 {
     let mut updated = false;
     let mut k: usize = 0;
@@ -104,8 +117,10 @@ fn all_rounds(
     p: usize,
     heights: &mut [i64],
 )
-    requires { ⌜ Linked (length (now heights)) n (tableOf directed (now from) (now to) (now costs)) × (p ≤ 1024) × Shallow (length (now heights)) 0 (now heights) ⌝ }
-    ensures { λ r. ⌜ RoundsDone (tableOf directed (now (from .entry)) (now (to .entry)) (now (costs .entry))) n p (now (heights .entry)) (now (heights .exit)) ⌝ }
+    requires { ⌜ Linked (length (now heights)) n (tableOf directed (now from) (now to) (now costs)) × (p ≤ 1024)
+        × Shallow (length (now heights)) 0 (now heights) ⌝ }
+    ensures { λ r. ⌜ RoundsDone
+        (tableOf directed (now (from .entry)) (now (to .entry)) (now (costs .entry))) n p (now (heights .entry)) (now (heights .exit)) ⌝ }
 {
     let mut i: usize = 1;
     while i < p {
@@ -125,8 +140,10 @@ fn link_improves(
     k: usize,
     heights: &[i64],
 ) -> bool
-    requires { ⌜ (k < length (now from)) × (k < length (now to)) × (k < length (now costs)) × (getD (now from) k 0 < length (now heights)) × (getD (now to) k 0 < length (now heights)) × ((v : ℕ) → Deep (2 ^ 59) (label (now heights) v)) ⌝ }
-    ensures { λ r. ⌜ Tested directed (getD (now (from .entry)) k 0) (getD (now (to .entry)) k 0) (getD (now (costs .entry)) k (pos 0)) (now (heights .entry)) r ⌝ }
+    requires { ⌜ (k < length (now from)) × (k < length (now to)) × (k < length (now costs)) × (getD (now from) k 0 < length (now heights))
+        × (getD (now to) k 0 < length (now heights)) × ((v : ℕ) → Deep (2 ^ 59) (label (now heights) v)) ⌝ }
+    ensures { λ r. ⌜ Tested directed (getD (now (from .entry)) k 0) (getD (now (to .entry)) k 0) (getD (now (costs .entry)) k (pos 0))
+        (now (heights .entry)) r ⌝ }
 {
     let u = from[k] as usize;
     let v = to[k] as usize;
@@ -148,7 +165,8 @@ fn any_improves(
     costs: &[i32],
     heights: &[i64],
 ) -> bool
-    requires { ⌜ Linked (length (now heights)) n (tableOf directed (now from) (now to) (now costs)) × Shallow (length (now heights)) (1024 * 16384) (now heights) ⌝ }
+    requires { ⌜ Linked (length (now heights)) n (tableOf directed (now from) (now to) (now costs))
+        × Shallow (length (now heights)) (1024 * 16384) (now heights) ⌝ }
     ensures { λ r. ⌜ TestedAll (tableOf directed (now (from .entry)) (now (to .entry)) (now (costs .entry))) n (now (heights .entry)) r ⌝ }
 {
     let mut k: usize = 0;
@@ -171,7 +189,9 @@ fn potentials(
     heights: &mut [i64],
 ) -> bool
     requires { ⌜ Ask (tableOf (map .directed) (now from) (now to) (now costs)) (map .count) p (now heights) ⌝ }
-    ensures { λ r. ⌜ Answered (tableOf (map .directed) (now (from .entry)) (now (to .entry)) (now (costs .entry))) (map .count) p (now (heights .entry)) (now (heights .exit)) r ⌝ }
+    ensures { λ r. ⌜ Answered
+        (tableOf (map .directed) (now (from .entry)) (now (to .entry)) (now (costs .entry))) (map .count) p (now (heights .entry))
+        (now (heights .exit)) r ⌝ }
 {
     let directed = map.directed;
     let n = map.count;
@@ -181,8 +201,10 @@ fn potentials(
 
 // The weight at i of an arc from u to v is shifted by the potentials.
 fn shift_at(heights: &[i64], weights: &mut [i64], i: usize, u: usize, v: usize)
-    requires { ⌜ (i < length (now weights)) × (u < length (now heights)) × (v < length (now heights)) × Cost32 (getD (now weights) i (pos 0)) × Deep (2 ^ 59) (label (now heights) u) × Deep (2 ^ 59) (label (now heights) v) ⌝ }
-    ensures { λ r. ⌜ now (weights .exit) ≡ set (now (weights .entry)) i (shiftedCost (now (heights .entry)) u v (getD (now (weights .entry)) i (pos 0))) ⌝ }
+    requires { ⌜ (i < length (now weights)) × (u < length (now heights)) × (v < length (now heights))
+        × Cost32 (getD (now weights) i (pos 0)) × Deep (2 ^ 59) (label (now heights) u) × Deep (2 ^ 59) (label (now heights) v) ⌝ }
+    ensures { λ r. ⌜ now (weights .exit) ≡ set (now (weights .entry)) i
+        (shiftedCost (now (heights .entry)) u v (getD (now (weights .entry)) i (pos 0))) ⌝ }
 {
     let n = weights[i] + heights[u];
     weights[i] = n - heights[v];
@@ -198,7 +220,8 @@ fn shift_row(
     weights: &mut [i64],
 )
     requires { ⌜ (u < m) × Listed m u (listsOf (now offsets) (now heads) (now weights)) (now heights) ⌝ }
-    ensures { λ r. ⌜ RowShifted m u (now (offsets .entry)) (now (heads .entry)) (now (heights .entry)) (now (weights .entry)) (now (weights .exit)) ⌝ }
+    ensures { λ r. ⌜ RowShifted m u (now (offsets .entry)) (now (heads .entry)) (now (heights .entry)) (now (weights .entry))
+        (now (weights .exit)) ⌝ }
 {
     let end = offsets[u + 1];
     let mut i: usize = offsets[u];
@@ -212,7 +235,9 @@ fn shift_row(
 // The weights of every arc of the neighbour list are shifted.
 fn shift_all(m: usize, offsets: &[usize], heads: &[u16], heights: &[i64], weights: &mut [i64])
     requires { ⌜ Listed m 0 (listsOf (now offsets) (now heads) (now weights)) (now heights) ⌝ }
-    ensures { λ r. ⌜ ShiftedTo m (listsOf (now (offsets .entry)) (now (heads .entry)) (now (weights .entry))) (now (heights .entry)) (now (weights .exit)) (getD (now (offsets .entry)) m 0) ⌝ }
+    ensures { λ r. ⌜ ShiftedTo m
+        (listsOf (now (offsets .entry)) (now (heads .entry)) (now (weights .entry))) (now (heights .entry)) (now (weights .exit))
+        (getD (now (offsets .entry)) m 0) ⌝ }
 {
     let mut u: usize = 0;
     while u < m {
@@ -233,8 +258,13 @@ fn prepare(
     weights: &mut [i64],
     heights: &mut [i64],
 ) -> bool
-    requires { ⌜ Ripe (netOf (map .bound) (map .count) (map .directed) (now marks) (now from) (now to) (now costs)) (listsOf (now offsets) (now heads) (now weights)) (now heights) ⌝ }
-    ensures { λ r. ⌜ Prepared (netOf (map .bound) (map .count) (map .directed) (now (marks .entry)) (now (from .entry)) (now (to .entry)) (now (costs .entry))) (listsOf (now (offsets .entry)) (now (heads .entry)) (now (weights .entry))) (listsOf (now (offsets .exit)) (now (heads .exit)) (now (weights .exit))) (now (heights .exit)) r ⌝ }
+    requires { ⌜ Ripe
+        (netOf (map .bound) (map .count) (map .directed) (now marks) (now from) (now to) (now costs))
+        (listsOf (now offsets) (now heads) (now weights)) (now heights) ⌝ }
+    ensures { λ r. ⌜ Prepared
+        (netOf (map .bound) (map .count) (map .directed) (now (marks .entry)) (now (from .entry)) (now (to .entry)) (now (costs .entry)))
+        (listsOf (now (offsets .entry)) (now (heads .entry)) (now (weights .entry)))
+        (listsOf (now (offsets .exit)) (now (heads .exit)) (now (weights .exit))) (now (heights .exit)) r ⌝ }
 {
     let m = map.bound;
     let p = net::count_present(m, marks);
@@ -249,7 +279,8 @@ fn prepare(
 
 // What was found from s to v, shifted back; none stays none.
 fn shift_back(heights: &[i64], dist: &[i64], s: usize, v: usize) -> i64
-    requires { ⌜ (s < length (now heights)) × (v < length (now heights)) × (v < length (now dist)) × Moderate (getD (now dist) v (pos 0)) × Deep (2 ^ 59) (label (now heights) s) × Deep (2 ^ 59) (label (now heights) v) ⌝ }
+    requires { ⌜ (s < length (now heights)) × (v < length (now heights)) × (v < length (now dist)) × Moderate (getD (now dist) v (pos 0))
+        × Deep (2 ^ 59) (label (now heights) s) × Deep (2 ^ 59) (label (now heights) v) ⌝ }
     ensures { λ r. ⌜ r ≡ shiftedBack (now (heights .entry)) s v (getD (now (dist .entry)) v (pos 0)) ⌝ }
 {
     let d = dist[v];
@@ -271,7 +302,8 @@ fn show_row(
     matrix: &mut [i64],
 )
     requires { ⌜ CanShow m at s (now marks) (now heights) (now dist) (now matrix) ⌝ }
-    ensures { λ r. ⌜ RowShown m at s m (now (marks .entry)) (now (heights .entry)) (now (dist .entry)) (now (matrix .entry)) (now (matrix .exit)) ⌝ }
+    ensures { λ r. ⌜ RowShown m at s m (now (marks .entry)) (now (heights .entry)) (now (dist .entry)) (now (matrix .entry))
+        (now (matrix .exit)) ⌝ }
 {
     let mut j: usize = 0;
     let mut v: usize = 0;
@@ -298,17 +330,25 @@ fn make_row(
     matrix: &mut [i64],
     dist: &mut [i64],
     preds: &mut [u32],
-    heap: &mut [usize],
-    places: &mut [usize],
+    peaks: &mut [usize],
+    words: &mut [usize],
     keys: &mut [i64],
 ) -> usize
-    requires { ⌜ (u < m) × (i ≡ rank m (now marks) u) × CanFill m p (now marks) (listsOf (now offsets) (now heads) (now weights)) (now heights) (now matrix) × Roomy m (memoryOf (now dist) (now preds) (now heap) (now places) (now keys)) ⌝ }
-    ensures { λ r. ⌜ (r ≡ rank m (now (marks .entry)) (u + 1)) × RowMade m p u (now (marks .entry)) (listsOf (now (offsets .entry)) (now (heads .entry)) (now (weights .entry))) (now (heights .entry)) (now (matrix .entry)) (now (matrix .exit)) × KeptMemory m (memoryOf (now (dist .entry)) (now (preds .entry)) (now (heap .entry)) (now (places .entry)) (now (keys .entry))) (memoryOf (now (dist .exit)) (now (preds .exit)) (now (heap .exit)) (now (places .exit)) (now (keys .exit))) ⌝ }
+    requires { ⌜ (u < m) × (i ≡ rank m (now marks) u)
+        × CanFill m p (now marks) (listsOf (now offsets) (now heads) (now weights)) (now heights) (now matrix)
+        × EnoughMemory m (memoryOf (now dist) (now preds) (now peaks) (now words) (now keys)) ⌝ }
+    ensures { λ r. ⌜ (r ≡ rank m (now (marks .entry)) (u + 1))
+        × RowMade m p u (now (marks .entry))
+        (listsOf (now (offsets .entry)) (now (heads .entry)) (now (weights .entry))) (now (heights .entry)) (now (matrix .entry))
+        (now (matrix .exit))
+        × KeptMemory m
+        (memoryOf (now (dist .entry)) (now (preds .entry)) (now (peaks .entry)) (now (words .entry)) (now (keys .entry)))
+        (memoryOf (now (dist .exit)) (now (preds .exit)) (now (peaks .exit)) (now (words .exit)) (now (keys .exit))) ⌝ }
 {
     if marks[u] == 0 {
         return i;
     }
-    search::to_all(
+    search::ints::to_all(
         m,
         u,
         offsets,
@@ -316,8 +356,8 @@ fn make_row(
         weights,
         dist,
         preds,
-        heap,
-        places,
+        peaks,
+        words,
         keys,
     );
     show_row(m, i * p, u, marks, heights, dist, matrix);
@@ -336,12 +376,18 @@ fn fill(
     matrix: &mut [i64],
     dist: &mut [i64],
     preds: &mut [u32],
-    heap: &mut [usize],
-    places: &mut [usize],
+    peaks: &mut [usize],
+    words: &mut [usize],
     keys: &mut [i64],
 )
-    requires { ⌜ CanFill m p (now marks) (listsOf (now offsets) (now heads) (now weights)) (now heights) (now matrix) × Roomy m (memoryOf (now dist) (now preds) (now heap) (now places) (now keys)) ⌝ }
-    ensures { λ r. ⌜ Filled m p m (now (marks .entry)) (listsOf (now (offsets .entry)) (now (heads .entry)) (now (weights .entry))) (now (heights .entry)) (now (matrix .entry)) (now (matrix .exit)) × KeptMemory m (memoryOf (now (dist .entry)) (now (preds .entry)) (now (heap .entry)) (now (places .entry)) (now (keys .entry))) (memoryOf (now (dist .exit)) (now (preds .exit)) (now (heap .exit)) (now (places .exit)) (now (keys .exit))) ⌝ }
+    requires { ⌜ CanFill m p (now marks) (listsOf (now offsets) (now heads) (now weights)) (now heights) (now matrix)
+        × EnoughMemory m (memoryOf (now dist) (now preds) (now peaks) (now words) (now keys)) ⌝ }
+    ensures { λ r. ⌜ Filled m p m (now (marks .entry))
+        (listsOf (now (offsets .entry)) (now (heads .entry)) (now (weights .entry))) (now (heights .entry)) (now (matrix .entry))
+        (now (matrix .exit))
+        × KeptMemory m
+        (memoryOf (now (dist .entry)) (now (preds .entry)) (now (peaks .entry)) (now (words .entry)) (now (keys .entry)))
+        (memoryOf (now (dist .exit)) (now (preds .exit)) (now (peaks .exit)) (now (words .exit)) (now (keys .exit))) ⌝ }
 {
     let mut i: usize = 0;
     let mut u: usize = 0;
@@ -359,8 +405,8 @@ fn fill(
             matrix,
             dist,
             preds,
-            heap,
-            places,
+            peaks,
+            words,
             keys,
         );
         u += 1;
@@ -381,12 +427,21 @@ fn solve(
     heights: &mut [i64],
     dist: &mut [i64],
     preds: &mut [u32],
-    heap: &mut [usize],
-    places: &mut [usize],
+    peaks: &mut [usize],
+    words: &mut [usize],
     keys: &mut [i64],
 ) -> bool
-    requires { ⌜ Passed (netOf (map .bound) (map .count) (map .directed) (now marks) (now from) (now to) (now costs)) (now matrix) (scratchOf (now offsets) (now heads) (now weights) (now heights) (now dist) (now preds) (now heap) (now places) (now keys)) ⌝ }
-    ensures { λ r. ⌜ Solved (netOf (map .bound) (map .count) (map .directed) (now (marks .entry)) (now (from .entry)) (now (to .entry)) (now (costs .entry))) (now (matrix .entry)) (scratchOf (now (offsets .entry)) (now (heads .entry)) (now (weights .entry)) (now (heights .entry)) (now (dist .entry)) (now (preds .entry)) (now (heap .entry)) (now (places .entry)) (now (keys .entry))) (now (matrix .exit)) (scratchOf (now (offsets .exit)) (now (heads .exit)) (now (weights .exit)) (now (heights .exit)) (now (dist .exit)) (now (preds .exit)) (now (heap .exit)) (now (places .exit)) (now (keys .exit))) r ⌝ }
+    requires { ⌜ Passed
+        (netOf (map .bound) (map .count) (map .directed) (now marks) (now from) (now to) (now costs)) (now matrix)
+        (scratchOf (now offsets) (now heads) (now weights) (now heights) (now dist) (now preds) (now peaks) (now words) (now keys)) ⌝ }
+    ensures { λ r.
+        let net = netOf (map .bound) (map .count) (map .directed) (now (marks .entry)) (now (from .entry)) (now (to .entry))
+        (now (costs .entry)) in
+        let lent = scratchOf (now (offsets .entry)) (now (heads .entry)) (now (weights .entry)) (now (heights .entry)) (now (dist .entry))
+        (now (preds .entry)) (now (peaks .entry)) (now (words .entry)) (now (keys .entry)) in
+        let left = scratchOf (now (offsets .exit)) (now (heads .exit)) (now (weights .exit)) (now (heights .exit)) (now (dist .exit))
+        (now (preds .exit)) (now (peaks .exit)) (now (words .exit)) (now (keys .exit)) in
+        ⌜ Solved net (now (matrix .entry)) lent (now (matrix .exit)) left r ⌝ }
 {
     let m = map.bound;
     if prepare(
@@ -414,8 +469,8 @@ fn solve(
         matrix,
         dist,
         preds,
-        heap,
-        places,
+        peaks,
+        words,
         keys,
     );
     false
@@ -433,23 +488,26 @@ fn long_enough(
     heights: &[i64],
     dist: &[i64],
     preds: &[u32],
-    heap: &[usize],
-    places: &[usize],
+    peaks: &[usize],
+    words: &[usize],
     keys: &[i64],
 ) -> bool
     requires { ⌜ p ≤ 1024 ⌝ }
-    ensures { λ r. ⌜ r ≡ longEnough m a p (now (matrix .entry)) (scratchOf (now (offsets .entry)) (now (heads .entry)) (now (weights .entry)) (now (heights .entry)) (now (dist .entry)) (now (preds .entry)) (now (heap .entry)) (now (places .entry)) (now (keys .entry))) ⌝ }
+    ensures { λ r.
+        let lent = scratchOf (now (offsets .entry)) (now (heads .entry)) (now (weights .entry)) (now (heights .entry)) (now (dist .entry))
+        (now (preds .entry)) (now (peaks .entry)) (now (words .entry)) (now (keys .entry)) in
+        ⌜ r ≡ longEnough m a p (now (matrix .entry)) lent ⌝ }
 {
     if matrix.len() < p * p {
         return false;
     }
-    if !rows::has_room(m, a, offsets, heads, weights) {
+    if !rows::has_lists(m, a, offsets, heads, weights) {
         return false;
     }
     if heights.len() < m {
         return false;
     }
-    search::has_memory(m, dist, preds, heap, places, keys)
+    search::ints::has_memory(m, dist, preds, peaks, words, keys)
 }
 
 // 1 where a limit is passed or a lent slice is too short, 2 where a link names an index that the map has not, else 0.
@@ -466,16 +524,21 @@ fn refusal(
     heights: &[i64],
     dist: &[i64],
     preds: &[u32],
-    heap: &[usize],
-    places: &[usize],
+    peaks: &[usize],
+    words: &[usize],
     keys: &[i64],
 ) -> usize
-    ensures { λ r. ⌜ r ≡ refusalNo (netOf (map .bound) (map .count) (map .directed) (now (marks .entry)) (now (from .entry)) (now (to .entry)) (now (costs .entry))) (now (matrix .entry)) (scratchOf (now (offsets .entry)) (now (heads .entry)) (now (weights .entry)) (now (heights .entry)) (now (dist .entry)) (now (preds .entry)) (now (heap .entry)) (now (places .entry)) (now (keys .entry))) ⌝ }
+    ensures { λ r.
+        let net = netOf (map .bound) (map .count) (map .directed) (now (marks .entry)) (now (from .entry)) (now (to .entry))
+        (now (costs .entry)) in
+        let lent = scratchOf (now (offsets .entry)) (now (heads .entry)) (now (weights .entry)) (now (heights .entry)) (now (dist .entry))
+        (now (preds .entry)) (now (peaks .entry)) (now (words .entry)) (now (keys .entry)) in
+        ⌜ r ≡ refusalNo net (now (matrix .entry)) lent ⌝ }
 {
     if !net::whole(map, marks, from, to, costs) {
         return 1;
     }
-    let a = net::arc_room(map.directed, map.count);
+    let a = net::most_arcs(map.directed, map.count);
     let p = net::count_present(map.bound, marks);
     if !long_enough(
         map.bound,
@@ -488,8 +551,8 @@ fn refusal(
         heights,
         dist,
         preds,
-        heap,
-        places,
+        peaks,
+        words,
         keys,
     ) {
         return 1;
@@ -510,20 +573,26 @@ fn wipe(
     heights: &mut [i64],
     dist: &mut [i64],
     preds: &mut [u32],
-    heap: &mut [usize],
-    places: &mut [usize],
+    peaks: &mut [usize],
+    words: &mut [usize],
     keys: &mut [i64],
 )
-    requires { ⌜ Room m a (scratchOf (now offsets) (now heads) (now weights) (now heights) (now dist) (now preds) (now heap) (now places) (now keys)) ⌝ }
-    ensures { λ r. ⌜ scratchOf (now (offsets .exit)) (now (heads .exit)) (now (weights .exit)) (now (heights .exit)) (now (dist .exit)) (now (preds .exit)) (now (heap .exit)) (now (places .exit)) (now (keys .exit)) ≡ wipedAll m a (scratchOf (now (offsets .entry)) (now (heads .entry)) (now (weights .entry)) (now (heights .entry)) (now (dist .entry)) (now (preds .entry)) (now (heap .entry)) (now (places .entry)) (now (keys .entry))) ⌝ }
+    requires { ⌜ EnoughScratch m a
+        (scratchOf (now offsets) (now heads) (now weights) (now heights) (now dist) (now preds) (now peaks) (now words) (now keys)) ⌝ }
+    ensures { λ r.
+        let lent = scratchOf (now (offsets .entry)) (now (heads .entry)) (now (weights .entry)) (now (heights .entry)) (now (dist .entry))
+        (now (preds .entry)) (now (peaks .entry)) (now (words .entry)) (now (keys .entry)) in
+        let left = scratchOf (now (offsets .exit)) (now (heads .exit)) (now (weights .exit)) (now (heights .exit)) (now (dist .exit))
+        (now (preds .exit)) (now (peaks .exit)) (now (words .exit)) (now (keys .exit)) in
+        ⌜ left ≡ wipedAll m a lent ⌝ }
 {
     rows::wipe(m, a, offsets, heads, weights);
     clean::clear_i64(heights, m);
-    search::wipe_memory(m, dist, preds, heap, places, keys);
+    search::ints::wipe_memory(m, dist, preds, peaks, words, keys);
 }
 
-// The least totals between all pairs of nodes. 1 where a lent slice is too short or a limit is passed, 2 where a link names an index that the
-// map has not, 7 where a closed walk totals below zero, else 0. The promise is in specs/Promise.antt.
+// The least totals between all pairs of nodes. 1 where a lent slice is too short or a limit is passed, 2 where a link names an index that
+// the map has not, 7 where a closed walk totals below zero, else 0. The promise is in specs/Promise.antt.
 pub fn johnson(
     map: Map,
     marks: &[u8],
@@ -537,13 +606,20 @@ pub fn johnson(
     heights: &mut [i64],
     dist: &mut [i64],
     preds: &mut [u32],
-    heap: &mut [usize],
-    places: &mut [usize],
+    peaks: &mut [usize],
+    words: &mut [usize],
     keys: &mut [i64],
 ) -> usize
-    ensures { λ r. ⌜ Promise (netOf (map .bound) (map .count) (map .directed) (now (marks .entry)) (now (from .entry)) (now (to .entry)) (now (costs .entry))) (now (matrix .entry)) (scratchOf (now (offsets .entry)) (now (heads .entry)) (now (weights .entry)) (now (heights .entry)) (now (dist .entry)) (now (preds .entry)) (now (heap .entry)) (now (places .entry)) (now (keys .entry))) (now (matrix .exit)) (scratchOf (now (offsets .exit)) (now (heads .exit)) (now (weights .exit)) (now (heights .exit)) (now (dist .exit)) (now (preds .exit)) (now (heap .exit)) (now (places .exit)) (now (keys .exit))) r ⌝ }
+    ensures { λ r.
+        let net = netOf (map .bound) (map .count) (map .directed) (now (marks .entry)) (now (from .entry)) (now (to .entry))
+        (now (costs .entry)) in
+        let lent = scratchOf (now (offsets .entry)) (now (heads .entry)) (now (weights .entry)) (now (heights .entry)) (now (dist .entry))
+        (now (preds .entry)) (now (peaks .entry)) (now (words .entry)) (now (keys .entry)) in
+        let left = scratchOf (now (offsets .exit)) (now (heads .exit)) (now (weights .exit)) (now (heights .exit)) (now (dist .exit))
+        (now (preds .exit)) (now (peaks .exit)) (now (words .exit)) (now (keys .exit)) in
+        ⌜ Promise net (now (matrix .entry)) lent (now (matrix .exit)) left r ⌝ }
 {
-    let no = refusal(
+    let refused = refusal(
         map,
         marks,
         from,
@@ -556,15 +632,15 @@ pub fn johnson(
         heights,
         dist,
         preds,
-        heap,
-        places,
+        peaks,
+        words,
         keys,
     );
-    if no != 0 {
-        return no;
+    if refused != 0 {
+        return refused;
     }
     let m = map.bound;
-    let a = net::arc_room(map.directed, map.count);
+    let a = net::most_arcs(map.directed, map.count);
     let p = net::count_present(m, marks);
     let negative = solve(
         map,
@@ -579,8 +655,8 @@ pub fn johnson(
         heights,
         dist,
         preds,
-        heap,
-        places,
+        peaks,
+        words,
         keys,
     );
     wipe(
@@ -592,8 +668,8 @@ pub fn johnson(
         heights,
         dist,
         preds,
-        heap,
-        places,
+        peaks,
+        words,
         keys,
     );
     if negative {

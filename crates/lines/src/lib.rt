@@ -6,7 +6,8 @@ ghost use mathlib.Core.Bool.{true, false};
 ghost use mathlib.Core.List.{[], _∷_};
 ghost use lib.Signed.{mag};
 ghost use lib.ListN.{length, take};
-ghost use Rattle.lines.specs.Text.{Printed, glyph as glyphOf, decimal, decimalText, signedText, belowZero, hex, hexText, spaceText, newlineText};
+ghost use Rattle.lines.specs.Text.{Printed, glyph as glyphOf, decimal, decimalText, signedText};
+ghost use Rattle.lines.specs.Text.{belowZero, hex, hexText, spaceText, newlineText};
 
 // The fixed words, each put by `put_bytes`.
 pub const NONE: [u8; 4] = *b"none";

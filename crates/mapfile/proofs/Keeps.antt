@@ -1,4 +1,4 @@
--- What a step of the walk keeps: the map has no more indices than there are marks, and the walk goes on within the file.
+-- What a step of the reading keeps: the map has no more indices than there are marks, and the reading goes on within the file.
 -- Assumes nothing.
 use mathlib.Core.Path.{_≡_, refl}
 use mathlib.Core.Bool.{true, false, _&&_}
@@ -12,8 +12,8 @@ use Rattle.whole.proofs.Cases.{by-test, and-right}
 use Rattle.clean.proofs.Filled.{filled-length}
 use Rattle.mapfile.specs.Bytes.{u16At}
 use Rattle.mapfile.specs.Records.{recordAt, kindAt, headAt, absentAt, linkAt, floatLinkAt, askAt}
-use Rattle.mapfile.specs.Load.{brokenAt, State, withWalk, headStep, absentStep, linkMay, linkStep, afterPut, floatStep, engineMay, askStep, takeRecord, oneStep}
-use Rattle.mapfile.specs.declared.Walk.{Walk}
+use Rattle.mapfile.specs.Load.{brokenAt, State, withReading, headStep, absentStep, linkMay, linkStep, afterPut, floatStep, engineMay, askStep, takeRecord, oneStep}
+use Rattle.mapfile.specs.declared.Reading.{Reading}
 use Rattle.mapfile.specs.declared.Record.{Record}
 use Rattle.mapfile.specs.declared.Record.the-variants.{End, Broken, Head, Absent, Link, FloatLink, Ask}
 
@@ -38,7 +38,8 @@ module _ (s : List ℕ) (at : ℕ) where
     kind-within kind =
         let z : Within Broken = omega arith in
         by-test Within (eqb kind 1) _ _
-        (λ _. by-test Within (eqb n 6) _ _ (λ e. by-test Within (leb (getD s (k + 2) 0) 1) _ _ (λ _. by-test Within (leb (getD s (k + 3) 0) 1) _ _ (λ _. omega (arith, eqb-true n 6 e)) (λ _. z)) (λ _. z)) (λ _. z))
+        (λ _. by-test Within (eqb n 6) _ _
+        (λ e. by-test Within (leb (getD s (k + 2) 0) 1) _ _ (λ _. by-test Within (leb (getD s (k + 3) 0) 1) _ _ (λ _. omega (arith, eqb-true n 6 e)) (λ _. z)) (λ _. z)) (λ _. z))
         (λ _. by-test Within (eqb kind 2) _ _
         (λ _. by-test Within (eqb n 4) _ _ (λ e. omega (arith, eqb-true n 4 e)) (λ _. z))
         (λ _. by-test Within (eqb kind 3) _ _
@@ -58,26 +59,26 @@ module _ (s : List ℕ) (at : ℕ) where
       (λ _. by-test Within (leb (at + 2 + u16At s at) (length s)) _ _ (λ e. kind-within (u16At s at) (at + 4) (leb-true _ _ e) (u16At s (at + 2))) (λ _. z))
       (λ _. z))
 
--- the map has no more indices than there are marks, as many as before; the walk lies within the file and, where it does not end, is further on
+-- the map has no more indices than there are marks, as many as before; the reading lies within the file and, where it does not end, is further on
 pub record Keeps (len : ℕ) (s t : State) : Type 0 where
   pub even : length (t .marks) ≡ length (s .marks)
-  pub bounded : t .walk .bound ≤ length (s .marks)
-  pub within : t .walk .at ≤ len
-  pub further : t .walk .stage < 3 → s .walk .at < t .walk .at
+  pub bounded : t .reading .bound ≤ length (s .marks)
+  pub within : t .reading .at ≤ len
+  pub further : t .reading .stage < 3 → s .reading .at < t .reading .at
 
-module _ (len : ℕ) (s : State) (h : s .walk .at ≤ len) (f : s .walk .bound ≤ length (s .marks)) where
-  abbrev w : Walk
-  w = s .walk
+module _ (len : ℕ) (s : State) (h : s .reading .at ≤ len) (f : s .reading .bound ≤ length (s .marks)) where
+  abbrev w : Reading
+  w = s .reading
 
   abbrev P : State → Type 0
   P t = Keeps len s t
 
   -- a rule is broken, at the record or after it
-  keeps-broken : (k : ℕ) → k ≤ len → P (withWalk (brokenAt k w) s)
+  keeps-broken : (k : ℕ) → k ≤ len → P (withReading (brokenAt k w) s)
   keeps-broken k l = record { even = refl; bounded = f; within = l; further = λ z. absurd (omega arith) }
 
-  -- what a put leaves of the walk
-  abbrev Q : Walk → Type 0
+  -- what a put leaves of the reading
+  abbrev Q : Reading → Type 0
   Q v = (v .bound ≤ length (s .marks)) × (v .at ≤ len) × (v .stage < 3 → w .at < v .at)
 
   keeps-after : (n k c : ℕ) → 0 < n → w .at + n ≤ len → Q (afterPut n k c w)
@@ -107,6 +108,6 @@ module _ (len : ℕ) (s : State) (h : s .walk .at ≤ len) (f : s .walk .bound �
       record { even = refl; bounded = k .0; within = k .1; further = k .2 }
 
 -- one record of the file
-pub keeps-step : (file : List ℕ) (s : State) → s .walk .at ≤ length file → s .walk .bound ≤ length (s .marks) → Keeps (length file) s (oneStep file s)
+pub keeps-step : (file : List ℕ) (s : State) → s .reading .at ≤ length file → s .reading .bound ≤ length (s .marks) → Keeps (length file) s (oneStep file s)
 unfolding oneStep
-keeps-step file s h f = keeps-take (length file) s h f (recordAt file (s .walk .at)) (record-within file (s .walk .at) h)
+keeps-step file s h f = keeps-take (length file) s h f (recordAt file (s .reading .at)) (record-within file (s .reading .at) h)

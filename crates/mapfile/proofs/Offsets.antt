@@ -1,6 +1,6 @@
 -- Where a map file breaks a rule, kind of break by kind of break: small files over tables for two indices and one link, by computation.
--- Each case is a file with the stage and the offset at which its walk has to end. The lists of cases go over 01's rules one after another, and one equation says
--- that the walk of every file ends as its case says: both sides compute to the same list.
+-- Each case is a file with the stage and the offset at which its reading has to end. The lists of cases go over 01's rules one after another, and one equation says
+-- that the reading of every file ends as its case says: both sides compute to the same list.
 -- Assumes nothing.
 use mathlib.Core.Path.{_≡_, refl}
 use mathlib.Core.List.{List, [], _∷_, _++_, map}
@@ -13,7 +13,7 @@ use Rattle.mapfile.specs.Bytes.{u16At, u32At, u64At, costOf}
 use Rattle.mapfile.specs.Records.{headAt, absentAt, linkAt, floatLinkAt, askAt, kindAt, recordAt}
 use Rattle.mapfile.specs.Load.{headStep, absentStep, linkMay, afterPut, linkStep, floatStep, engineMay, askStep, oneStep, loaded}
 
--- a file, and the stage and the offset at which its walk ends
+-- a file, and the stage and the offset at which its reading ends
 pub record Case : Type 0 where
   pub file : List ℕ
   pub stage : ℕ
@@ -29,9 +29,9 @@ bad k f = ends 3 k f
 abbrev good : ℕ → List ℕ → Case
 good k f = ends 4 k f
 
--- the walk of a case's file
-abbrev walk : Case → Case
-walk c = let s = loaded 16384 (c .file) (0 ∷ 0 ∷ []) (0 ∷ []) (0 ∷ []) (pos 0 ∷ []) (0 ∷ []) (0 ∷ []) in ends (s .walk .stage) (s .walk .at) (c .file)
+-- the reading of a case's file
+abbrev reading : Case → Case
+reading c = let s = loaded 16384 (c .file) (0 ∷ 0 ∷ []) (0 ∷ []) (0 ∷ []) (pos 0 ∷ []) (0 ∷ []) (0 ∷ []) in ends (s .reading .stage) (s .reading .at) (c .file)
 
 -- heads for two indices, directed, of an integer map (8 bytes) and of an f64 map
 abbrev head : List ℕ
@@ -122,6 +122,7 @@ asks =
     ∷ []
 
 -- every one of them ends so
-pub offsets : map walk (sound ++ first ++ noAsk ++ shapes ++ places ++ puts ++ asks) ≡ sound ++ first ++ noAsk ++ shapes ++ places ++ puts ++ asks
-unfolding filled samePair joinsEnds present presentBoth lentWhole tableNo placeAt placing shorter roomInts roomFloats storeInts putInts storeFloats putFloats u16At u32At u64At costOf headAt absentAt linkAt floatLinkAt askAt kindAt recordAt headStep absentStep linkMay afterPut linkStep floatStep engineMay askStep oneStep loaded
+pub offsets : map reading (sound ++ first ++ noAsk ++ shapes ++ places ++ puts ++ asks) ≡ sound ++ first ++ noAsk ++ shapes ++ places ++ puts ++ asks
+unfolding filled samePair joinsEnds present presentBoth lentWhole tableNo placeAt placing shorter roomInts roomFloats storeInts putInts storeFloats putFloats u16At u32At u64At costOf headAt absentAt
+    linkAt floatLinkAt askAt kindAt recordAt headStep absentStep linkMay afterPut linkStep floatStep engineMay askStep oneStep loaded
 offsets = refl

@@ -1,6 +1,6 @@
 -- What a record makes of the state, case by case: each law is one way through the code.
--- A step is a tree of tests over the stage of the walk, the kind of the map and the record's fields. A law fixes the tests on one way through it, and there the step
--- computes to what the code leaves: the walk broken at this record, or the state with the record taken and the walk moved on. A link that may stand here is put, and
+-- A step is a tree of tests over the stage of the reading, the kind of the map and the record's fields. A law fixes the tests on one way through it, and there the step
+-- computes to what the code leaves: the reading broken at this record, or the state with the record taken and the reading moved on. A link that may stand here is put, and
 -- the number of the put decides.
 -- Assumes nothing.
 use mathlib.Core.Path.{_≡_, sym, ap, _∙_}
@@ -17,18 +17,19 @@ use lib.ListN.{length, set}
 use Rattle.clean.specs.Fill.{filled}
 use Rattle.table.specs.Links.{linkOf}
 use Rattle.table.specs.Lent.{intsNow, putInts, floatsNow, rawCost, putFloats}
-use Rattle.mapfile.specs.Load.{brokenAt, onward, headed, asked, State, stateOf, withWalk, withMarks, broken, headStep, absentStep, linkMay, afterPut, linkStep, floatStep, engineMay, askStep, takeRecord, oneStep}
+use Rattle.mapfile.specs.Load.{brokenAt, onward, headed, asked, State, stateOf, withReading, withMarks, broken, headStep}
+use Rattle.mapfile.specs.Load.{absentStep, linkMay, afterPut, linkStep, floatStep, engineMay, askStep, takeRecord, oneStep}
 use Rattle.mapfile.specs.Records.{recordAt}
-use Rattle.mapfile.specs.declared.Walk.{Walk}
+use Rattle.mapfile.specs.declared.Reading.{Reading}
 use Rattle.mapfile.specs.declared.Record.{Record}
 
--- a walk that is broken at the record at hand
-pub broken-by : (s : State) (v : Walk) → v ≡ brokenAt (s .walk .at) (s .walk) → withWalk v s ≡ broken s
-broken-by s v e = ap (λ (x : Walk). withWalk x s) e
+-- a reading that is broken at the record at hand
+pub broken-by : (s : State) (v : Reading) → v ≡ brokenAt (s .reading .at) (s .reading) → withReading v s ≡ broken s
+broken-by s v e = ap (λ (x : Reading). withReading x s) e
 
 module _ (s : State) where
-  abbrev w : Walk
-  w = s .walk
+  abbrev w : Reading
+  w = s .reading
 
   module _ (m : ℕ) (d f : Bool) where
     -- a head that is not first
@@ -69,7 +70,7 @@ module _ (s : State) where
     link-may-not m = simp (m)
 
     -- one that is put, the cost going through 32 bits
-    pub link-put : {k n : ℕ} {xs ys : List ℕ} {cs : List ℤ} {v : Walk} → SFits w32 c → linkMay false w ≡ true
+    pub link-put : {k n : ℕ} {xs ys : List ℕ} {cs : List ℤ} {v : Reading} → SFits w32 c → linkMay false w ≡ true
         → intsNow k n xs ys cs ≡ putInts (w .directed) (w .bound) (s .marks) (linkOf a b (toZ w32 (ofZ w32 c))) (w .count) (s .from) (s .to) (s .costs) → v ≡ afterPut 12 k n w
         → stateOf v (s .marks) xs ys cs (s .bits) (s .opens) ≡ linkStep a b c s
     unfolding linkStep
@@ -82,19 +83,19 @@ module _ (s : State) where
     float-may-not m = simp (m)
 
     -- one that is put
-    pub float-put : {k n : ℕ} {xs ys bs os : List ℕ} {v : Walk} → linkMay true w ≡ true
+    pub float-put : {k n : ℕ} {xs ys bs os : List ℕ} {v : Reading} → linkMay true w ≡ true
         → floatsNow k n xs ys bs os ≡ putFloats (w .directed) (w .bound) (s .marks) (linkOf a b (rawCost x o)) (w .count) (s .from) (s .to) (s .bits) (s .opens) → v ≡ afterPut 17 k n w
         → stateOf v (s .marks) xs ys (s .costs) bs os ≡ floatStep a b x o s
     unfolding floatStep
     float-put m e h = simp (m, h, sym e)
 
-module _ (w : Walk) where
+module _ (w : Reading) where
   -- a put of either kind that is refused, and one that is done
-  pub after-refused : (n k c : ℕ) {v : Walk} → (k ≡ 0 → ⊥) → v ≡ brokenAt (w .at) w → v ≡ afterPut n k c w
+  pub after-refused : (n k c : ℕ) {v : Reading} → (k ≡ 0 → ⊥) → v ≡ brokenAt (w .at) w → v ≡ afterPut n k c w
   unfolding afterPut
   after-refused n k c h e = simp (ne-eqb k 0 h, e)
 
-  pub after-done : (n k c : ℕ) {v : Walk} → k ≡ 0 → v ≡ onward 2 n c w → v ≡ afterPut n k c w
+  pub after-done : (n k c : ℕ) {v : Reading} → k ≡ 0 → v ≡ onward 2 n c w → v ≡ afterPut n k c w
   unfolding afterPut
   after-done n k c h e = simp (eq-eqb k 0 h, e)
 
@@ -133,6 +134,6 @@ module _ (w : Walk) where
     ask-done h m l = let p : 0 < w .stage = omega arith in simp (lt-ltb _ _ p, m, le-ltb _ _ l)
 
 -- a step, from the record that stands there and what was made of it
-pub step-by : (file : List ℕ) (s t : State) (r : Record) → r ≡ recordAt file (s .walk .at) → t ≡ takeRecord r (length file) s → t ≡ oneStep file s
+pub step-by : (file : List ℕ) (s t : State) (r : Record) → r ≡ recordAt file (s .reading .at) → t ≡ takeRecord r (length file) s → t ≡ oneStep file s
 unfolding oneStep
 step-by file s t r e h = h ∙ ap (λ (x : Record). takeRecord x (length file) s) e

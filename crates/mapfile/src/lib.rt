@@ -1,4 +1,4 @@
-// The records of a map file: what stands at an offset, and the walk that loads a map and its ask.
+// The records of a map file: what stands at an offset, and the reading that loads a map and its ask.
 ghost use mathlib.Core.Path.{_≡_};
 ghost use Prim.Native.Nat.{ℕ, _+_, _-_, _≤_, _<_, _^_};
 ghost use mathlib.Core.Bool.{true, false};
@@ -6,7 +6,8 @@ ghost use lib.ListN.{length};
 ghost use Rattle.clean.specs.Fill.{filled};
 ghost use Rattle.mapfile.specs.Bytes.{u16At, u32At, u64At, costOf};
 ghost use Rattle.mapfile.specs.Records.{recordAt, kindAt, headAt, absentAt, linkAt, floatLinkAt, askAt};
-ghost use Rattle.mapfile.specs.Load.{startWalk, brokenAt, onward as onwardOf, stateOf, headStep, absentStep, linkMay, linkStep, floatStep, engineMay, askStep, oneStep, loaded};
+ghost use Rattle.mapfile.specs.Load.{startReading, brokenAt, onward as onwardOf, stateOf, headStep, absentStep};
+ghost use Rattle.mapfile.specs.Load.{linkMay, linkStep, floatStep, engineMay, askStep, oneStep, loaded};
 ghost use Rattle.mapfile.specs.Parts.{OnMarks, OnInts, OnFloats};
 use table::Map;
 
@@ -242,9 +243,9 @@ pub fn read_at(file: &[u8], at: usize) -> Record
     next(view_at(file, at))
 }
 
-// How far the walk over a map file is, the map's scalars so far, and at the end the ask. The stages: 0 before the first record,
+// How far the reading of a map file is, the map's scalars so far, and at the end the ask. The stages: 0 before the first record,
 // 1 after the head, 2 after a link, 3 a rule is broken at `at`, 4 asked.
-pub struct Walk {
+pub struct Reading {
     pub stage: u8,
     pub at: usize,
     pub bound: usize,
@@ -256,11 +257,11 @@ pub struct Walk {
     pub target: u16,
 }
 
-// A walk before the first record.
-fn start() -> Walk
-    ensures { λ r. ⌜ r ≡ startWalk ⌝ }
+// A reading before the first record.
+fn start() -> Reading
+    ensures { λ r. ⌜ r ≡ startReading ⌝ }
 {
-    Walk {
+    Reading {
         stage: 0,
         at: 0,
         bound: 0,
@@ -273,11 +274,11 @@ fn start() -> Walk
     }
 }
 
-// The walk, with a rule broken at an offset.
-fn broken_at(at: usize, w: Walk) -> Walk
+// The reading, with a rule broken at an offset.
+fn broken_at(at: usize, w: Reading) -> Reading
     ensures { λ r. ⌜ r ≡ brokenAt at w ⌝ }
 {
-    Walk {
+    Reading {
         stage: 3,
         at: at,
         bound: w.bound,
@@ -290,19 +291,19 @@ fn broken_at(at: usize, w: Walk) -> Walk
     }
 }
 
-// The walk, with a rule broken by the record at hand.
-fn broken(w: Walk) -> Walk
+// The reading, with a rule broken by the record at hand.
+fn broken(w: Reading) -> Reading
     ensures { λ r. ⌜ r ≡ brokenAt (w .at) w ⌝ }
 {
     broken_at(w.at, w)
 }
 
-// The walk past a record of n bytes, at a stage and with a count of links.
-fn onward(stage: u8, n: usize, count: usize, w: Walk) -> Walk
+// The reading past a record of n bytes, at a stage and with a count of links.
+fn onward(stage: u8, n: usize, count: usize, w: Reading) -> Reading
     requires { ⌜ w .at + n < 2 ^ 64 ⌝ }
     ensures { λ r. ⌜ r ≡ onwardOf stage n count w ⌝ }
 {
-    Walk {
+    Reading {
         stage: stage,
         at: w.at + n,
         bound: w.bound,
@@ -328,7 +329,7 @@ fn mark_all(marks: &mut [u8], m: usize)
 }
 
 // A head: the first record, with no more indices than there are marks.
-fn take_head(w: Walk, m: u16, directed: bool, float: bool, marks: &mut [u8]) -> Walk
+fn take_head(w: Reading, m: u16, directed: bool, float: bool, marks: &mut [u8]) -> Reading
     requires { ⌜ w .at + 8 < 2 ^ 64 ⌝ }
     ensures { λ r. ⌜ OnMarks (headStep m directed float) w (now (marks .entry)) r (now (marks .exit)) ⌝ }
 {
@@ -340,7 +341,7 @@ fn take_head(w: Walk, m: u16, directed: bool, float: bool, marks: &mut [u8]) -> 
         return broken(w);
     }
     mark_all(marks, bound);
-    Walk {
+    Reading {
         stage: 1,
         at: w.at + 8,
         bound: bound,
@@ -354,7 +355,7 @@ fn take_head(w: Walk, m: u16, directed: bool, float: bool, marks: &mut [u8]) -> 
 }
 
 // An absent index: after the head and before the links, below m.
-fn take_absent(w: Walk, i: u16, marks: &mut [u8]) -> Walk
+fn take_absent(w: Reading, i: u16, marks: &mut [u8]) -> Reading
     requires { ⌜ w .bound ≤ length (now marks) ⌝ }
     requires { ⌜ w .at + 6 < 2 ^ 64 ⌝ }
     ensures { λ r. ⌜ OnMarks (absentStep i) w (now (marks .entry)) r (now (marks .exit)) ⌝ }
@@ -371,7 +372,7 @@ fn take_absent(w: Walk, i: u16, marks: &mut [u8]) -> Walk
 }
 
 // May a link of a kind stand here?
-fn link_may(float: bool, w: Walk) -> bool
+fn link_may(float: bool, w: Reading) -> bool
     ensures { λ r. ⌜ r ≡ linkMay float w ⌝ }
 {
     if w.stage == 0 {
@@ -385,7 +386,7 @@ fn link_may(float: bool, w: Walk) -> bool
 
 // An integer link: put into the table.
 fn take_link(
-    w: Walk,
+    w: Reading,
     a: u16,
     b: u16,
     cost: i32,
@@ -393,9 +394,10 @@ fn take_link(
     from: &mut [u16],
     to: &mut [u16],
     costs: &mut [i32],
-) -> Walk
+) -> Reading
     requires { ⌜ w .at + 12 < 2 ^ 64 ⌝ }
-    ensures { λ r. ⌜ OnInts (linkStep a b cost) (now (marks .entry)) w (now (from .entry)) (now (to .entry)) (now (costs .entry)) r (now (from .exit)) (now (to .exit)) (now (costs .exit)) ⌝ }
+    ensures { λ r. ⌜ OnInts (linkStep a b cost) (now (marks .entry)) w (now (from .entry)) (now (to .entry)) (now (costs .entry)) r
+        (now (from .exit)) (now (to .exit)) (now (costs .exit)) ⌝ }
 {
     if !link_may(false, w) {
         return broken(w);
@@ -414,7 +416,7 @@ fn take_link(
 
 // An f64 link: put into the table.
 fn take_float(
-    w: Walk,
+    w: Reading,
     a: u16,
     b: u16,
     pattern: u64,
@@ -424,9 +426,10 @@ fn take_float(
     to: &mut [u16],
     bits: &mut [u64],
     opens: &mut [u8],
-) -> Walk
+) -> Reading
     requires { ⌜ w .at + 17 < 2 ^ 64 ⌝ }
-    ensures { λ r. ⌜ OnFloats (floatStep a b pattern opened) (now (marks .entry)) w (now (from .entry)) (now (to .entry)) (now (bits .entry)) (now (opens .entry)) r (now (from .exit)) (now (to .exit)) (now (bits .exit)) (now (opens .exit)) ⌝ }
+    ensures { λ r. ⌜ OnFloats (floatStep a b pattern opened) (now (marks .entry)) w (now (from .entry)) (now (to .entry))
+        (now (bits .entry)) (now (opens .entry)) r (now (from .exit)) (now (to .exit)) (now (bits .exit)) (now (opens .exit)) ⌝ }
 {
     if !link_may(true, w) {
         return broken(w);
@@ -460,7 +463,7 @@ fn engine_may(engine: u8, float: bool) -> bool
 }
 
 // An ask: after the head, an engine that the map's kind has, and nothing after it.
-fn take_ask(w: Walk, engine: u8, source: u16, target: u16, len: usize) -> Walk
+fn take_ask(w: Reading, engine: u8, source: u16, target: u16, len: usize) -> Reading
     requires { ⌜ w .at + 9 < 2 ^ 64 ⌝ }
     ensures { λ r. ⌜ r ≡ askStep len engine source target w ⌝ }
 {
@@ -473,7 +476,7 @@ fn take_ask(w: Walk, engine: u8, source: u16, target: u16, len: usize) -> Walk
     if w.at + 9 < len {
         return broken_at(w.at + 9, w);
     }
-    Walk {
+    Reading {
         stage: 4,
         at: w.at,
         bound: w.bound,
@@ -489,16 +492,20 @@ fn take_ask(w: Walk, engine: u8, source: u16, target: u16, len: usize) -> Walk
 // One record of the file.
 fn step(
     file: &[u8],
-    w: Walk,
+    w: Reading,
     marks: &mut [u8],
     from: &mut [u16],
     to: &mut [u16],
     costs: &mut [i32],
     bits: &mut [u64],
     opens: &mut [u8],
-) -> Walk
+) -> Reading
     requires { ⌜ (w .at ≤ length (now file)) × (w .bound ≤ length (now marks)) ⌝ }
-    ensures { λ r. ⌜ stateOf r (now (marks .exit)) (now (from .exit)) (now (to .exit)) (now (costs .exit)) (now (bits .exit)) (now (opens .exit)) ≡ oneStep (now (file .entry)) (stateOf w (now (marks .entry)) (now (from .entry)) (now (to .entry)) (now (costs .entry)) (now (bits .entry)) (now (opens .entry))) ⌝ }
+    ensures { λ r. ⌜ stateOf r (now (marks .exit)) (now (from .exit)) (now (to .exit)) (now (costs .exit)) (now (bits .exit))
+        (now (opens .exit))
+        ≡ oneStep (now (file .entry))
+        (stateOf w (now (marks .entry)) (now (from .entry)) (now (to .entry)) (now (costs .entry)) (now (bits .entry))
+        (now (opens .entry))) ⌝ }
 {
     let at = w.at;
     let found = read_at(file, at);
@@ -526,7 +533,7 @@ fn step(
     }
 }
 
-// Loads a map file of at most `limit` bytes into lent tables: the walk ends asked (stage 4), or with a rule broken (stage 3) at `at`.
+// Loads a map file of at most `limit` bytes into lent tables: the reading ends asked (stage 4), or with a rule broken (stage 3) at `at`.
 // A map may have as many indices as there are marks, and as many links as the tables have room for.
 pub fn load(
     limit: usize,
@@ -537,8 +544,11 @@ pub fn load(
     costs: &mut [i32],
     bits: &mut [u64],
     opens: &mut [u8],
-) -> Walk
-    ensures { λ r. ⌜ stateOf r (now (marks .exit)) (now (from .exit)) (now (to .exit)) (now (costs .exit)) (now (bits .exit)) (now (opens .exit)) ≡ loaded limit (now (file .entry)) (now (marks .entry)) (now (from .entry)) (now (to .entry)) (now (costs .entry)) (now (bits .entry)) (now (opens .entry)) ⌝ }
+) -> Reading
+    ensures { λ r. ⌜ stateOf r (now (marks .exit)) (now (from .exit)) (now (to .exit)) (now (costs .exit)) (now (bits .exit))
+        (now (opens .exit))
+        ≡ loaded limit (now (file .entry)) (now (marks .entry)) (now (from .entry)) (now (to .entry)) (now (costs .entry))
+        (now (bits .entry)) (now (opens .entry)) ⌝ }
 {
     if limit < file.len() {
         return broken_at(limit, start());

@@ -62,7 +62,9 @@ matrix-one {g} {before} {a} {b} p q = ext-getD (pos 0) a b (p .long ∙ sym (q .
 pub matrix-over : {g g′ : Net ℤ} {before after : List ℤ} → SameNet g g′ → Matrix g before after → Matrix g′ before after
 matrix-over {g} {g′} {before} {after} s p = record {
   long = p .long;
-  each = subst (λ (r : List ℕ). (i j : ℕ) → i < length r → j < length r → Entry (ArcOf g′) (getD r i 0) (getD r j 0) (getD after (i * length r + j) (pos 0))) (same-nodes s) (λ i j h k. entry-over (λ u v c. s .arcs u v c .0) (λ u v c. s .arcs u v c .1) (p .each i j h k));
+  each =
+      subst (λ (r : List ℕ). (i j : ℕ) → i < length r → j < length r → Entry (ArcOf g′) (getD r i 0) (getD r j 0) (getD after (i * length r + j) (pos 0))) (same-nodes s)
+      (λ i j h k. entry-over (λ u v c. s .arcs u v c .0) (λ u v c. s .arcs u v c .1) (p .each i j h k));
   rest = subst (λ (r : List ℕ). drop (length r * length r) after ≡ drop (length r * length r) before) (same-nodes s) (p .rest);
 }
 

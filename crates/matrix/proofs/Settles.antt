@@ -9,55 +9,42 @@ use native.Mathlib.Omega.{arith}
 use lib.IntN.{ℤ, pos}
 use lib.Signed.{_<ℤ_}
 use Rattle.whole.specs.Zed.{_⊕_, zed, sum}
-use Rattle.whole.proofs.Cases.{clash, other}
+use Rattle.numbers.specs.Numbers.{here, past, Follows, At, Given, Over, firstNo}
+use Rattle.numbers.proofs.Numbers.{_then_, is-one, follows-one, exactly, given, follows-over, behind, itself}
+use Rattle.numbers.proofs.Numbers as numbers
+use Rattle.numbers.proofs.Beside.{beside, alike}
 use Rattle.clean.specs.Fill.{filled}
 use Rattle.clean.specs.None.{noneI64}
 use Rattle.walks.specs.Walk.{stay, step, Negative}
 use Rattle.walks.proofs.Over.{negative-over}
 use Rattle.net.specs.Net.{Net, ArcOf, insideNet, SameNet}
 use Rattle.net.proofs.Same.{arc-turned, same-inside, same-width}
-use Rattle.matrix.specs.Matrix.{AllPairs, short, outside, negative, done}
+use Rattle.matrix.specs.Matrix.{Buffers, buffersOf, table, AllPairs}
 use Rattle.matrix.proofs.Matrix.{matrix-one, matrix-over}
 
-module _ {S : Type 0} {g : Net ℤ} {long : Bool} {lent clear : S} {before : List ℤ} where
-  -- two answers that the promise allows are equal: the number, the matrix and the scratch
-  pub promise-one : {left left′ : S} {after after′ : List ℤ} {no no′ : ℕ} → AllPairs g long lent clear left before after no → AllPairs g long lent clear left′ before after′ no′ → (no ≡ no′) × (after ≡ after′) × (left ≡ left′)
-  promise-one (short n l a s) (short n′ l′ a′ s′) = (n ∙ sym n′, a ∙ sym a′, s ∙ sym s′)
-  promise-one (short n l a s) (outside n′ l′ i′ a′ s′) = absurd (clash l′ l)
-  promise-one (short n l a s) (negative n′ l′ i′ x′ a′ s′) = absurd (clash l′ l)
-  promise-one (short n l a s) (done n′ l′ i′ x′ a′ s′) = absurd (clash l′ l)
-  promise-one (outside n l i a s) (short n′ l′ a′ s′) = absurd (clash l l′)
-  promise-one (outside n l i a s) (outside n′ l′ i′ a′ s′) = (n ∙ sym n′, a ∙ sym a′, s ∙ sym s′)
-  promise-one (outside n l i a s) (negative n′ l′ i′ x′ a′ s′) = absurd (clash i′ i)
-  promise-one (outside n l i a s) (done n′ l′ i′ x′ a′ s′) = absurd (clash i′ i)
-  promise-one (negative n l i x a s) (short n′ l′ a′ s′) = absurd (clash l l′)
-  promise-one (negative n l i x a s) (outside n′ l′ i′ a′ s′) = absurd (clash i i′)
-  promise-one (negative n l i x a s) (negative n′ l′ i′ x′ a′ s′) = (n ∙ sym n′, a ∙ sym a′, s ∙ sym s′)
-  promise-one (negative n l i x a s) (done n′ l′ i′ x′ a′ s′) = absurd (x′ x)
-  promise-one (done n l i x a s) (short n′ l′ a′ s′) = absurd (clash l l′)
-  promise-one (done n l i x a s) (outside n′ l′ i′ a′ s′) = absurd (clash i i′)
-  promise-one (done n l i x a s) (negative n′ l′ i′ x′ a′ s′) = absurd (x x′)
-  promise-one (done n l i x a s) (done n′ l′ i′ x′ a′ s′) = (n ∙ sym n′, matrix-one a a′, s ∙ sym s′)
+module _ {S : Type 0} {g : Net ℤ} {enough : Bool} {clear : S} {b : Buffers S} where
+  -- two answers that the promise allows are equal: after 0 the matrix is settled entry by entry, else the row names the buffers
+  pub promise-one : {e e′ : Buffers S} {number number′ : ℕ} → AllPairs g enough clear b e number → AllPairs g enough clear b e′ number′ → (number ≡ number′) × (e ≡ e′)
+  promise-one {e} {e′} {number} {number′} p q =
+      follows-one (table g enough clear b) e e′ number number′
+      (is-one then is-one then is-one then (λ x y p q. λ i. buffersOf (matrix-one (p .0) (q .0) i) ((p .1 ∙ sym (q .1)) i)) then tt) (p .follows) (q .follows)
 
-  module _ {left : S} {after : List ℤ} {no : ℕ} where
-    -- each number exactly when 01 says
-    pub one-exactly : AllPairs g long lent clear left before after no → (no ≡ 1) ↔ (long ≡ false)
-    one-exactly (short n l a s) = (λ z. l, λ z. n)
-    one-exactly (outside n l i a s) = (λ z. other 2 1 n z (λ y. omega arith), λ z. absurd (clash l z))
-    one-exactly (negative n l i x a s) = (λ z. other 7 1 n z (λ y. omega arith), λ z. absurd (clash l z))
-    one-exactly (done n l i x a s) = (λ z. other 0 1 n z (λ y. omega arith), λ z. absurd (clash l z))
+  module _ {e : Buffers S} {number : ℕ} (p : AllPairs g enough clear b e number) where
+    -- each number exactly when its row is reached, and what is then left
+    pub promise-exactly : (k : ℕ) → (number ≡ k) ↔ At k (table g enough clear b)
+    promise-exactly = exactly (table g enough clear b) e number (p .follows)
 
-    pub two-exactly : AllPairs g long lent clear left before after no → (no ≡ 2) ↔ ((long ≡ true) × (insideNet g ≡ false))
-    two-exactly (short n l a s) = (λ z. other 1 2 n z (λ y. omega arith), λ z. absurd (clash (z .0) l))
-    two-exactly (outside n l i a s) = (λ z. (l, i), λ z. n)
-    two-exactly (negative n l i x a s) = (λ z. other 7 2 n z (λ y. omega arith), λ z. absurd (clash i (z .1)))
-    two-exactly (done n l i x a s) = (λ z. other 0 2 n z (λ y. omega arith), λ z. absurd (clash i (z .1)))
+    pub promise-given : (k : ℕ) → number ≡ k → Given k (table g enough clear b) e
+    promise-given = given (table g enough clear b) e number (p .follows)
 
-    pub seven-exactly : AllPairs g long lent clear left before after no → (no ≡ 7) ↔ ((long ≡ true) × (insideNet g ≡ true) × Negative (ArcOf g))
-    seven-exactly (short n l a s) = (λ z. other 1 7 n z (λ y. omega arith), λ z. absurd (clash (z .0) l))
-    seven-exactly (outside n l i a s) = (λ z. other 2 7 n z (λ y. omega arith), λ z. absurd (clash (z .1) i))
-    seven-exactly (negative n l i x a s) = (λ z. (l, i, x), λ z. n)
-    seven-exactly (done n l i x a s) = (λ z. other 0 7 n z (λ y. omega arith), λ z. absurd (x (z .2)))
+module _ {S : Type 0} (g : Net ℤ) (enough : Bool) (clear : S) (b : Buffers S) where
+  -- a refusal is what the promise says
+  pub refused : (n : ℕ) → n ≡ firstNo 2 (table g enough clear b) → (n ≡ 0 → ⊥) → AllPairs g enough clear b b n
+  refused n q f = record { follows = numbers.refused 2 (table g enough clear b) b (refl, (refl, tt)) n q f }
+
+  -- no refusal: nothing is too short, and each link is inside
+  pub passed : firstNo 2 (table g enough clear b) ≡ 0 → (enough ≡ true) × (insideNet g ≡ true)
+  passed q = let p = numbers.passed 2 (table g enough clear b) (refl, (refl, tt)) q in (p .0, p .1 .0)
 
 -- undirected: a cost below zero, there and back, is a closed walk below zero: 7 for every undirected map with a negative cost
 pub undirected-negative : (g : Net ℤ) → g .directed ≡ false → (u v : ℕ) (c : ℤ) → ArcOf g u v c → c <ℤ pos 0 → Negative (ArcOf g)
@@ -68,29 +55,43 @@ undirected-negative g e u v c a h = record {
   below = omega (arith, zed, sum c (c ⊕ pos 0), sum c (pos 0));
 }
 
-pub undirected-seven : {S : Type 0} {g : Net ℤ} {lent clear left : S} {before after : List ℤ} {no : ℕ} → AllPairs g true lent clear left before after no → insideNet g ≡ true → g .directed ≡ false → (u v : ℕ) (c : ℤ) → ArcOf g u v c → c <ℤ pos 0 → no ≡ 7
-undirected-seven {g} p i e u v c a h = seven-exactly p .1 (refl, i, undirected-negative g e u v c a h)
+pub undirected-seven : {S : Type 0} {g : Net ℤ} {clear : S} {b e : Buffers S} {number : ℕ} → AllPairs g true clear b e number → insideNet g ≡ true → g .directed ≡ false → (u v : ℕ) (c : ℤ)
+    → ArcOf g u v c → c <ℤ pos 0 → number ≡ 7
+undirected-seven {g} p i d u v c a h = promise-exactly p 7 .1 (refl, (i, undirected-negative g d u v c a h))
 
 -- by the same arcs, with scratch that is as long and as clear
-pub promise-arcs : {S : Type 0} {g g′ : Net ℤ} {long long′ : Bool} {lent clear clear′ left : S} {before after : List ℤ} {no : ℕ} → SameNet g g′ → long ≡ long′ → clear ≡ clear′ → AllPairs g long lent clear left before after no → AllPairs g′ long′ lent clear′ left before after no
-promise-arcs same e c (short n l a s) = short n (sym e ∙ l) a s
-promise-arcs same e c (outside n l i a s) = outside n (sym e ∙ l) (sym (same-inside same) ∙ i) a s
-promise-arcs {before} same e c (negative n l i x a s) = negative n (sym e ∙ l) (sym (same-inside same) ∙ i) (negative-over (λ u v c. same .arcs u v c .0) x) (a ∙ ap (λ (p : ℕ). filled (p * p) noneI64 before) (same-width same)) (s ∙ c)
-promise-arcs same e c (done n l i x a s) = done n (sym e ∙ l) (sym (same-inside same) ∙ i) (λ y. x (negative-over (λ u v c. same .arcs u v c .1) y)) (matrix-over same a) (s ∙ c)
+pub promise-arcs : {S : Type 0} {g g′ : Net ℤ} {enough enough′ : Bool} {clear clear′ : S} {b e : Buffers S} {number : ℕ} → SameNet g g′ → enough ≡ enough′ → clear ≡ clear′
+    → AllPairs g enough clear b e number → AllPairs g′ enough′ clear′ b e number
+promise-arcs {g} {g′} {enough} {enough′} {clear} {clear′} {b} {e} {number} same l c p =
+    record { follows = follows-over (table g enough clear b) (table g′ enough′ clear′ b) e number rows (p .follows) }
+  where
+    -- row by row
+    rows : Over (table g enough clear b) (table g′ enough′ clear′ b)
+    rows =
+        (refl, l, λ e q. q)
+        then (refl, same-inside same, λ e q. q)
+        then (
+          refl,
+          (negative-over (λ u v c. same .arcs u v c .0), negative-over (λ u v c. same .arcs u v c .1)),
+          λ e q. q ∙ (λ i. buffersOf (filled (same-width same i * same-width same i) noneI64 (b .matrix)) (c i)),
+        )
+        then (refl, (λ u. u, λ u. u), λ e q. (matrix-over same (q .0), q .1 ∙ c))
+        then tt
 
 -- two engines with this promise agree in number and matrix, if neither gives 1
-pub engines-agree : {S T : Type 0} {g : Net ℤ} {l m : Bool} {lent clear left : S} {lent′ clear′ left′ : T} {before after after′ : List ℤ} {no no′ : ℕ}
-    → AllPairs g l lent clear left before after no → AllPairs g m lent′ clear′ left′ before after′ no′ → (no ≡ 1 → ⊥) → (no′ ≡ 1 → ⊥) → (no ≡ no′) × (after ≡ after′)
-engines-agree (short n l a s) q f f′ = absurd (f n)
-engines-agree (outside n l i a s) (short n′ l′ a′ s′) f f′ = absurd (f′ n′)
-engines-agree (outside n l i a s) (outside n′ l′ i′ a′ s′) f f′ = (n ∙ sym n′, a ∙ sym a′)
-engines-agree (outside n l i a s) (negative n′ l′ i′ x′ a′ s′) f f′ = absurd (clash i′ i)
-engines-agree (outside n l i a s) (done n′ l′ i′ x′ a′ s′) f f′ = absurd (clash i′ i)
-engines-agree (negative n l i x a s) (short n′ l′ a′ s′) f f′ = absurd (f′ n′)
-engines-agree (negative n l i x a s) (outside n′ l′ i′ a′ s′) f f′ = absurd (clash i i′)
-engines-agree (negative n l i x a s) (negative n′ l′ i′ x′ a′ s′) f f′ = (n ∙ sym n′, a ∙ sym a′)
-engines-agree (negative n l i x a s) (done n′ l′ i′ x′ a′ s′) f f′ = absurd (x′ x)
-engines-agree (done n l i x a s) (short n′ l′ a′ s′) f f′ = absurd (f′ n′)
-engines-agree (done n l i x a s) (outside n′ l′ i′ a′ s′) f f′ = absurd (clash i i′)
-engines-agree (done n l i x a s) (negative n′ l′ i′ x′ a′ s′) f f′ = absurd (x x′)
-engines-agree (done n l i x a s) (done n′ l′ i′ x′ a′ s′) f f′ = (n ∙ sym n′, matrix-one a a′)
+pub engines-agree : {S T : Type 0} {g : Net ℤ} {l m : Bool} {lent clear : S} {lent′ clear′ : T} {before : List ℤ} {e : Buffers S} {e′ : Buffers T} {number number′ : ℕ}
+    → AllPairs g l clear (buffersOf before lent) e number → AllPairs g m clear′ (buffersOf before lent′) e′ number′ → (number ≡ 1 → ⊥) → (number′ ≡ 1 → ⊥)
+    → (number ≡ number′) × (e .matrix ≡ e′ .matrix)
+engines-agree {S} {T} {g} {l} {m} {lent} {clear} {lent′} {clear′} {before} {e} {e′} {number} {number′} p q f f′ = go (p .follows) (q .follows)
+  where
+    -- what is left of two matrices that are told
+    told : {x : List ℤ} {s : S} {t : T} (y : Buffers S) (z : Buffers T) → y ≡ buffersOf x s → z ≡ buffersOf x t → y .matrix ≡ z .matrix
+    told y z a c = ap (λ (y : Buffers S). y .matrix) a ∙ sym (ap (λ (z : Buffers T). z .matrix) c)
+
+    go : Follows (table g l clear (buffersOf before lent)) e number → Follows (table g m clear′ (buffersOf before lent′)) e′ number′ → (number ≡ number′) × (e .matrix ≡ e′ .matrix)
+    go (here w x) y = absurd (f (x .0))
+    go (past w x) (here w′ y) = absurd (f′ (y .0))
+    go (past w x) (past w′ y) =
+        beside (λ n (y : Buffers S) (z : Buffers T). y .matrix ≡ z .matrix)
+        (behind 1 (table g l clear (buffersOf before lent))) (behind 1 (table g m clear′ (buffersOf before lent′))) e e′ number number′
+        (alike refl refl told (λ i i′. alike refl itself told (λ n n′. alike refl itself (λ y z a c. matrix-one (a .0) (c .0)) (λ u u′. tt)))) x y

@@ -11,7 +11,7 @@ use Rattle.table.specs.Links.{zip3}
 use Rattle.table.specs.Lent.{floatCosts}
 use Rattle.table.proofs.Laws.{Room, room-ints, room-bits, room-opens, room-floats, zip-long}
 use Rattle.table.proofs.Laws as table
-use Rattle.net.specs.Net.{Net, netOf, netOf64, wholeNet, arcRoom, sizeOf, width}
+use Rattle.net.specs.Net.{Net, netOf, netOf64, wholeNet, mostArcs, mostArcsOf, width}
 use Rattle.net.proofs.Nodes.{width-most}
 
 -- the limits, and slices that are long enough
@@ -23,19 +23,19 @@ pub record Whole {C : Type 0} (g : Net C) : Type 0 where
   pub listed : g .count ≤ length (g .table)
 
 -- the room that arcs take is twice the count at most
-pub arc-room-most : (d : Bool) (n : ℕ) → arcRoom d n ≤ n + n
-unfolding arcRoom
-arc-room-most true n = omega arith
-arc-room-most false n = omega arith
+pub most-arcs-most : (d : Bool) (n : ℕ) → mostArcs d n ≤ n + n
+unfolding mostArcs
+most-arcs-most true n = omega arith
+most-arcs-most false n = omega arith
 
-pub arc-room-least : (d : Bool) (n : ℕ) → n ≤ arcRoom d n
-unfolding arcRoom
-arc-room-least true n = omega arith
-arc-room-least false n = omega arith
+pub most-arcs-least : (d : Bool) (n : ℕ) → n ≤ mostArcs d n
+unfolding mostArcs
+most-arcs-least true n = omega arith
+most-arcs-least false n = omega arith
 
 module _ {C : Type 0} {g : Net C} (w : Whole g) where
-  pub size-most : sizeOf g ≤ 16384
-  size-most = omega (arith, arc-room-most (g .directed) (g .count), w .links)
+  pub size-most : mostArcsOf g ≤ 16384
+  size-most = omega (arith, most-arcs-most (g .directed) (g .count), w .links)
 
   pub width-small : width g ≤ 1024
   width-small = omega (arith, width-most g, w .indices)

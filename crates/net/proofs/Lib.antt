@@ -3,5 +3,5 @@ pub mod Bounds
 pub mod Same
 pub mod Lists
 pub mod Totals
-pub mod Tests
 pub mod Cheapest
+pub mod One

@@ -24,7 +24,8 @@ module _ (m : ℕ) (marks : List ℕ) (i : ℕ) (h : i < m) where
   count-no e = rw (add-one i) (count-absent (present m marks) i (present-no m marks i h e))
 
 -- the number counted so far
-pub count-more : (m : ℕ) (marks : List ℕ) (i p p′ : ℕ) → i < m → p ≡ length (rising (present m marks) i) → ((getD marks i 0 ≡ 0 → ⊥) × (p′ ≡ p + 1)) ⊎ ((getD marks i 0 ≡ 0) × (p′ ≡ p)) → p′ ≡ length (rising (present m marks) (i + 1))
+pub count-more : (m : ℕ) (marks : List ℕ) (i p p′ : ℕ) → i < m → p ≡ length (rising (present m marks) i) → ((getD marks i 0 ≡ 0 → ⊥) × (p′ ≡ p + 1)) ⊎ ((getD marks i 0 ≡ 0) × (p′ ≡ p))
+    → p′ ≡ length (rising (present m marks) (i + 1))
 count-more m marks i p p′ h e (inl w) = w .1 ∙ (ap (λ (x : ℕ). x + 1) e ∙ sym (count-yes m marks i h (w .0)))
 count-more m marks i p p′ h e (inr w) = w .1 ∙ (e ∙ sym (count-no m marks i h (w .0)))
 

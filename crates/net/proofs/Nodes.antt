@@ -74,10 +74,14 @@ module _ (f : ℕ → Bool) where
 
       go : (u < m → Ranked m u) → Dec (u ≡ m) → (b : Bool) → f m ≡ b → Ranked (suc m) u
       go ih (yes q) b z = last q
-      go ih (no q) false z = let r = ih (omega (arith, q)) in record { within = omega (arith, r .within, count-absent m z); at = ap (λ (l : List ℕ). getD l (length (rising f u)) 0) (rising-absent m z) ∙ r .at }
+      go ih (no q) false z =
+          let r = ih (omega (arith, q)) in record { within = omega (arith, r .within, count-absent m z); at = ap (λ (l : List ℕ). getD l (length (rising f u)) 0) (rising-absent m z) ∙ r .at }
       go ih (no q) true z =
           let r = ih (omega (arith, q)) in
-          record { within = omega (arith, r .within, count-present m z); at = ap (λ (l : List ℕ). getD l (length (rising f u)) 0) (rising-present m z) ∙ (List·getD-append (rising f m) (m ∷ []) 0 (length (rising f u)) (r .within) ∙ r .at) }
+          record {
+            within = omega (arith, r .within, count-present m z);
+            at = ap (λ (l : List ℕ). getD l (length (rising f u)) 0) (rising-present m z) ∙ (List·getD-append (rising f m) (m ∷ []) 0 (length (rising f u)) (r .within) ∙ r .at);
+          }
 
   -- the index at a place has this place
   pub rank-of : (m i : ℕ) → i < length (rising f m) → length (rising f (getD (rising f m) i 0)) ≡ i
@@ -110,7 +114,8 @@ module _ (f : ℕ → Bool) where
       go : (i < length (rising f m) → Has m (getD (rising f m) i 0)) → (b : Bool) → f m ≡ b → Dec (i < length (rising f m)) → Has (suc m) (getD (rising f (suc m)) i 0)
       go ih false z (yes k) = subst (λ (l : List ℕ). Has (suc m) (getD l i 0)) (sym (rising-absent m z)) (up _ (ih k))
       go ih false z (no k) = absurd (omega (arith, k, count-absent m z))
-      go ih true z (yes k) = subst (λ (l : List ℕ). Has (suc m) (getD l i 0)) (sym (rising-present m z)) (subst (λ (x : ℕ). Has (suc m) x) (sym (List·getD-append (rising f m) (m ∷ []) 0 i k)) (up _ (ih k)))
+      go ih true z (yes k) =
+          subst (λ (l : List ℕ). Has (suc m) (getD l i 0)) (sym (rising-present m z)) (subst (λ (x : ℕ). Has (suc m) x) (sym (List·getD-append (rising f m) (m ∷ []) 0 i k)) (up _ (ih k)))
       go ih true z (no k) =
           let e : length (rising f m) ≡ i = omega (arith, k, count-present m z) in
           subst (λ (l : List ℕ). Has (suc m) (getD l i 0)) (sym (rising-present m z))

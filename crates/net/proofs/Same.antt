@@ -11,7 +11,7 @@ use Rattle.table.specs.Links.{Link, Arc}
 use Rattle.table.specs.Lent.{FloatCost}
 use Rattle.table.proofs.Arcs.{arc-inside, inside-arc}
 use Rattle.table.proofs.Joins.{joined, joins-of}
-use Rattle.net.specs.Net.{Net, linksOf, ArcOf, OpenArcOf, LeadsOf, has, rising, nodesOf, width, insideNet, arcRoom, sizeOf, SameNet}
+use Rattle.net.specs.Net.{Net, linksOf, ArcOf, OpenArcOf, LeadsOf, has, rising, nodesOf, width, insideNet, mostArcs, mostArcsOf, SameNet}
 use Rattle.net.proofs.Nodes.{rising-same, has-below}
 
 -- both ends of an arc are indices that the map has
@@ -49,7 +49,8 @@ pub same-self : {C : Type 0} (g : Net C) → SameNet g g
 same-self g = record { bound = refl; count = refl; directed = refl; has = λ i. refl; whole = refl; arcs = λ u v c. (λ w. w, λ w. w) }
 
 pub same-back : {C : Type 0} {g g′ : Net C} → SameNet g g′ → SameNet g′ g
-same-back s = record { bound = sym (s .bound); count = sym (s .count); directed = sym (s .directed); has = λ i. sym (s .has i); whole = sym (s .whole); arcs = λ u v c. (s .arcs u v c .1, s .arcs u v c .0) }
+same-back s =
+    record { bound = sym (s .bound); count = sym (s .count); directed = sym (s .directed); has = λ i. sym (s .has i); whole = sym (s .whole); arcs = λ u v c. (s .arcs u v c .1, s .arcs u v c .0) }
 
 carry : {C : Type 0} (g g′ : Net C) → SameNet g g′ → insideNet g ≡ true → insideNet g′ ≡ true
 carry g g′ s e =
@@ -68,8 +69,8 @@ module _ {C : Type 0} {g g′ : Net C} (s : SameNet g g′) where
   pub same-width : width g ≡ width g′
   same-width = ap length same-nodes
 
-  pub same-size : sizeOf g ≡ sizeOf g′
-  same-size = ap (λ (d : Bool). arcRoom d (g .count)) (s .directed) ∙ ap (λ (n : ℕ). arcRoom (g′ .directed) n) (s .count)
+  pub same-size : mostArcsOf g ≡ mostArcsOf g′
+  same-size = ap (λ (d : Bool). mostArcs d (g .count)) (s .directed) ∙ ap (λ (n : ℕ). mostArcs (g′ .directed) n) (s .count)
 
   -- arcs of any cost
   pub same-leads : (u v : ℕ) → LeadsOf g u v ↔ LeadsOf g′ u v

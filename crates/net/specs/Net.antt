@@ -1,7 +1,7 @@
 -- The lent map as engines see it: once for any type C of a link's cost.
 -- Assumes nothing.
 use mathlib.Core.Path.{_≡_}
-use mathlib.Core.Bool.{Bool, true, false, cond}
+use mathlib.Core.Bool.{Bool, cond}
 use mathlib.Core.List.{List, [], _∷_, _++_}
 use mathlib.Core.Logic.{_↔_}
 use Prim.Native.Nat.{ℕ, zero, suc, _+_}
@@ -25,7 +25,8 @@ netOf m n d marks xs ys cs = record { bound = m; count = n; directed = d; room =
 
 -- of the slices of an f64 map
 abbrev pub netOf64 : ℕ → ℕ → Bool → List ℕ → List ℕ → List ℕ → List ℕ → List ℕ → Net FloatCost
-netOf64 m n d marks xs ys bs os = record { bound = m; count = n; directed = d; room = roomFloats xs ys bs os; marks = marks; table = zip3 xs ys (floatCosts bs os) }
+netOf64 m n d marks xs ys bs os =
+    record { bound = m; count = n; directed = d; room = roomFloats xs ys bs os; marks = marks; table = zip3 xs ys (floatCosts bs os) }
 
 -- its links: the first places of its table
 abbrev pub linksOf : {C : Type 0} → Net C → List (Link C)
@@ -66,11 +67,11 @@ abbrev pub insideNet : {C : Type 0} → Net C → Bool
 insideNet g = allInside (g .bound) (g .marks) (linksOf g)
 
 -- a: the count of links if directed, twice the count if not
-unfoldable pub arcRoom : Bool → ℕ → ℕ
-arcRoom d n = cond d n (n + n)
+unfoldable pub mostArcs : Bool → ℕ → ℕ
+mostArcs d n = cond d n (n + n)
 
-abbrev pub sizeOf : {C : Type 0} → Net C → ℕ
-sizeOf g = arcRoom (g .directed) (g .count)
+abbrev pub mostArcsOf : {C : Type 0} → Net C → ℕ
+mostArcsOf g = mostArcs (g .directed) (g .count)
 
 -- maps that no question can tell apart: the same numbers and present indices, both long enough or both not, and the same arcs
 pub record SameNet {C : Type 0} (g g′ : Net C) : Type 0 where

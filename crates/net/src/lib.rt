@@ -6,7 +6,7 @@ ghost use mathlib.Core.Path.{_≡_};
 ghost use Prim.Native.Nat.{ℕ, _≤_};
 ghost use lib.ListN.{length, drop};
 ghost use Rattle.table.specs.Links.{present};
-ghost use Rattle.net.specs.Net.{netOf, netOf64, wholeNet, insideNet, rising, arcRoom};
+ghost use Rattle.net.specs.Net.{netOf, netOf64, wholeNet, insideNet, rising, mostArcs};
 ghost use Rattle.net.specs.Ranks.{Ranks};
 
 // Does the map have the index i, which may be any number?
@@ -21,9 +21,9 @@ pub fn has_index(bound: usize, marks: &[u8], i: usize) -> bool
 }
 
 // a: the room that the arcs of n links may take.
-pub fn arc_room(directed: bool, n: usize) -> usize
+pub fn most_arcs(directed: bool, n: usize) -> usize
     requires { ⌜ n ≤ 8192 ⌝ }
-    ensures { λ r. ⌜ r ≡ arcRoom directed n ⌝ }
+    ensures { λ r. ⌜ r ≡ mostArcs directed n ⌝ }
 {
     if directed {
         return n;
@@ -65,8 +65,11 @@ pub fn set_ranks(bound: usize, marks: &[u8], ranks: &mut [usize])
 
 // Write the indices that the map has in rising order, and return their number.
 pub fn list_nodes(bound: usize, marks: &[u8], nodes: &mut [u32]) -> usize
-    requires { ⌜ (bound ≤ 1024) × (bound ≤ length (now marks)) × (length (rising (present bound (now marks)) bound) ≤ length (now nodes)) ⌝ }
-    ensures { λ r. ⌜ (r ≡ length (rising (present bound (now (marks .entry))) bound)) × (now (nodes .exit) ≡ rising (present bound (now (marks .entry))) bound ++ drop (length (rising (present bound (now (marks .entry))) bound)) (now (nodes .entry))) ⌝ }
+    requires { ⌜ (bound ≤ 1024) × (bound ≤ length (now marks))
+        × (length (rising (present bound (now marks)) bound) ≤ length (now nodes)) ⌝ }
+    ensures { λ r. ⌜ (r ≡ length (rising (present bound (now (marks .entry))) bound))
+        × (now (nodes .exit) ≡ rising (present bound (now (marks .entry))) bound
+        ++ drop (length (rising (present bound (now (marks .entry))) bound)) (now (nodes .entry))) ⌝ }
 {
     let mut p: usize = 0;
     let mut i: usize = 0;
@@ -82,7 +85,9 @@ pub fn list_nodes(bound: usize, marks: &[u8], nodes: &mut [u32]) -> usize
 
 // Does an integer map keep the limits, with slices that are long enough?
 pub fn whole(map: Map, marks: &[u8], from: &[u16], to: &[u16], costs: &[i32]) -> bool
-    ensures { λ r. ⌜ r ≡ wholeNet (netOf (map .bound) (map .count) (map .directed) (now (marks .entry)) (now (from .entry)) (now (to .entry)) (now (costs .entry))) ⌝ }
+    ensures { λ r. ⌜ r ≡ wholeNet
+        (netOf (map .bound) (map .count) (map .directed) (now (marks .entry)) (now (from .entry)) (now (to .entry))
+        (now (costs .entry))) ⌝ }
 {
     let most = table::room(from, to, costs);
     table::lent_whole(map.bound, map.count, most, marks)
@@ -91,7 +96,9 @@ pub fn whole(map: Map, marks: &[u8], from: &[u16], to: &[u16], costs: &[i32]) ->
 // Does each link of an integer map name indices that the map has?
 pub fn inside(map: Map, marks: &[u8], from: &[u16], to: &[u16], costs: &[i32]) -> bool
     requires { ⌜ wholeNet (netOf (map .bound) (map .count) (map .directed) (now marks) (now from) (now to) (now costs)) ≡ true ⌝ }
-    ensures { λ r. ⌜ r ≡ insideNet (netOf (map .bound) (map .count) (map .directed) (now (marks .entry)) (now (from .entry)) (now (to .entry)) (now (costs .entry))) ⌝ }
+    ensures { λ r. ⌜ r ≡ insideNet
+        (netOf (map .bound) (map .count) (map .directed) (now (marks .entry)) (now (from .entry)) (now (to .entry))
+        (now (costs .entry))) ⌝ }
 {
     table::all_inside(map.bound, map.count, marks, from, to)
 }
@@ -105,7 +112,10 @@ pub fn whole_f64(
     bits: &[u64],
     opens: &[u8],
 ) -> bool
-    ensures { λ r. ⌜ r ≡ wholeNet (netOf64 (map .bound) (map .count) (map .directed) (now (marks .entry)) (now (from .entry)) (now (to .entry)) (now (bits .entry)) (now (opens .entry))) ⌝ }
+    ensures { λ r.
+        let net = netOf64 (map .bound) (map .count) (map .directed) (now (marks .entry)) (now (from .entry)) (now (to .entry))
+        (now (bits .entry)) (now (opens .entry)) in
+        ⌜ r ≡ wholeNet net ⌝ }
 {
     let most = table::room_f64(from, to, bits, opens);
     table::lent_whole(map.bound, map.count, most, marks)
@@ -120,8 +130,12 @@ pub fn inside_f64(
     bits: &[u64],
     opens: &[u8],
 ) -> bool
-    requires { ⌜ wholeNet (netOf64 (map .bound) (map .count) (map .directed) (now marks) (now from) (now to) (now bits) (now opens)) ≡ true ⌝ }
-    ensures { λ r. ⌜ r ≡ insideNet (netOf64 (map .bound) (map .count) (map .directed) (now (marks .entry)) (now (from .entry)) (now (to .entry)) (now (bits .entry)) (now (opens .entry))) ⌝ }
+    requires { ⌜ wholeNet (netOf64 (map .bound) (map .count) (map .directed) (now marks) (now from) (now to) (now bits) (now opens))
+        ≡ true ⌝ }
+    ensures { λ r.
+        let net = netOf64 (map .bound) (map .count) (map .directed) (now (marks .entry)) (now (from .entry)) (now (to .entry))
+        (now (bits .entry)) (now (opens .entry)) in
+        ⌜ r ≡ insideNet net ⌝ }
 {
     table::all_inside(map.bound, map.count, marks, from, to)
 }

@@ -144,7 +144,8 @@ module _ (d : Bool) (xs ys : List ℕ) (cs : List ℤ) (i : ℕ) (p : i < length
       from u v c (inr (inl x, k)) = inr (sym (x .0), sym (x .1), sym k)
       from u v c (inr (inr x, k)) = absurd (clash w (x .0))
 
-  both-ways : {page : List ℤ} {met : List ℕ} → d ≡ false → Seen (Plus (Plus (Arc d (links i xs ys cs)) (here .a) (here .b) (here .cost)) (here .b) (here .a) (here .cost)) page met → Seen (Arc d (links (suc i) xs ys cs)) page met
+  both-ways : {page : List ℤ} {met : List ℕ} → d ≡ false → Seen (Plus (Plus (Arc d (links i xs ys cs)) (here .a) (here .b) (here .cost)) (here .b) (here .a) (here .cost)) page met
+      → Seen (Arc d (links (suc i) xs ys cs)) page met
   both-ways w s = seen-over to (λ u v c x. from u v c (split u v c x)) s
     where
       to : (u v : ℕ) (c : ℤ) → Plus (Plus (Arc d (links i xs ys cs)) (here .a) (here .b) (here .cost)) (here .b) (here .a) (here .cost) u v c → Arc d (links (suc i) xs ys cs) u v c
@@ -152,7 +153,8 @@ module _ (d : Bool) (xs ys : List ℕ) (cs : List ℤ) (i : ℕ) (p : i < length
       to u v c (inl (inr x)) = rw (x .0, x .1, x .2) (forth (suc i) (omega arith))
       to u v c (inr x) = rw (x .0, x .1, x .2) (back w (suc i) (omega arith))
 
-      from : (u v : ℕ) (c : ℤ) → Arc d (links i xs ys cs) u v c ⊎ (Joined d u v here × (here .cost ≡ c)) → Plus (Plus (Arc d (links i xs ys cs)) (here .a) (here .b) (here .cost)) (here .b) (here .a) (here .cost) u v c
+      from : (u v : ℕ) (c : ℤ) → Arc d (links i xs ys cs) u v c ⊎ (Joined d u v here × (here .cost ≡ c))
+          → Plus (Plus (Arc d (links i xs ys cs)) (here .a) (here .b) (here .cost)) (here .b) (here .a) (here .cost) u v c
       from u v c (inl x) = inl (inl x)
       from u v c (inr (inl x, k)) = inl (inr (sym (x .0), sym (x .1), sym k))
       from u v c (inr (inr x, k)) = inr (sym (x .2), sym (x .1), sym k)
@@ -182,10 +184,20 @@ module _ {d : Bool} {m n : ℕ} {xs ys : List ℕ} {cs : List ℤ} {i : ℕ} {pa
 
   -- what looking at its arcs asks
   pub can-look : CanLook page met a b
-  can-look = record { tail = omega (arith, below .0, upto .ready .paged); head = omega (arith, below .1, upto .ready .paged); mark = omega (arith, below .1, upto .ready .marked); ranged = upto .ranged a (below .0) }
+  can-look = record {
+    tail = omega (arith, below .0, upto .ready .paged);
+    head = omega (arith, below .1, upto .ready .paged);
+    mark = omega (arith, below .1, upto .ready .marked);
+    ranged = upto .ranged a (below .0);
+  }
 
   can-look-back : {met′ : List ℕ} → length met′ ≡ length met → CanLook page met′ b a
-  can-look-back q = record { tail = omega (arith, below .1, upto .ready .paged); head = omega (arith, below .0, upto .ready .paged); mark = omega (arith, below .0, upto .ready .marked); ranged = upto .ranged b (below .1) }
+  can-look-back q = record {
+    tail = omega (arith, below .1, upto .ready .paged);
+    head = omega (arith, below .0, upto .ready .paged);
+    mark = omega (arith, below .0, upto .ready .marked);
+    ranged = upto .ranged b (below .1);
+  }
 
   -- one link more
   grown : {met′ : List ℕ} → length met′ ≡ length met → Seen (Arc d (links (suc i) xs ys cs)) page met′ → Upto d m n xs ys cs (i + 1) page met′

@@ -13,10 +13,11 @@ use lib.Signed.{_≤ℤ_}
 use Rattle.whole.specs.Zed.{_⊕_, zed, sum, Within}
 use Rattle.walks.specs.Walk.{Walk, stay, step, Least, NoNeg, Entry}
 use Rattle.walks.proofs.Walk.{join, arc}
+use Rattle.numbers.specs.Numbers.{here, past}
 use Rattle.net.specs.Net.{Net, ArcOf, insideNet, has}
 use Rattle.net.proofs.Nodes.{has-below}
 use Rattle.net.proofs.Same.{arc-below}
-use Rattle.page.specs.Promise.{entry, Known, Meets, Right, enough, Answer, answerOf, Promise, good}
+use Rattle.page.specs.Promise.{entry, Known, Meets, Right, enough, Answer, answerOf, Promise}
 use Rattle.page.proofs.Settles.{promise-one}
 
 -- a walk with an arc, cut before its last
@@ -98,4 +99,4 @@ module _ (g : Net ℤ) (s : ℕ) (page : List ℤ) (inside : insideNet g ≡ tru
 -- so the answer to such a page is yes
 pub totals-yes : (g : Net ℤ) (s : ℕ) (page : List ℤ) {a : Answer} → enough g page ≡ true → insideNet g ≡ true → has g s ≡ true → NoNeg (ArcOf g) s
     → ((v : ℕ) → v < g .bound → Entry (ArcOf g) s v (entry page v)) → Promise g s page a → a ≡ answerOf 0 true
-totals-yes g s page p i h none each a = promise-one a (good refl p i h (totals-right g s page i h none each))
+totals-yes g s page p i h none each a = promise-one a (record { follows = past p (past i (past h (here (totals-right g s page i h none each) (refl, refl)))) })

@@ -1,21 +1,22 @@
 -- What the parts of the page check promise it.
 -- Assumes nothing.
 use mathlib.Core.Path.{_≡_}
-use mathlib.Core.Bool.{Bool, true, false, cond}
+use mathlib.Core.Bool.{Bool, true, false}
 use mathlib.Core.List.{List}
 use Prim.Native.Nat.{ℕ, _+_, _≤_, _<_}
 use lib.IntN.{ℤ}
 use lib.Signed.{_<ℤ_}
 use lib.ListN.{length, getD, set}
+use Rattle.numbers.specs.Numbers.{firstNo}
 use Rattle.whole.specs.Zed.{_⊕_}
 use Rattle.clean.specs.None.{noneI64}
 use Rattle.table.specs.Links.{links, Arc}
-use Rattle.net.specs.Net.{Net, insideNet, has}
-use Rattle.page.specs.Promise.{entry, Known, Holds, Meets, InRange, Ranged, enough}
+use Rattle.net.specs.Net.{Net}
+use Rattle.page.specs.Promise.{entry, Known, Holds, Meets, InRange, Ranged, table}
 
 -- refusal 1, then 2, then 3, else 0
 unfoldable pub refusalNo : Net ℤ → ℕ → List ℤ → ℕ
-refusalNo g s page = cond (enough g page) (cond (insideNet g) (cond (has g s) 0 3) 2) 1
+refusalNo g s page = firstNo 3 (table g s page)
 
 -- r tells A from B
 pub record Tells (A B : Type 0) (r : Bool) : Type 0 where

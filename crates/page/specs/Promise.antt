@@ -2,13 +2,14 @@
 -- Assumes nothing.
 use mathlib.Core.Path.{_≡_}
 use mathlib.Core.Bool.{Bool, true, false, _&&_}
-use mathlib.Core.List.{List}
+use mathlib.Core.List.{List, [], _∷_}
 use mathlib.Core.Logic.{_⊎_}
 use Prim.Native.Nat.{ℕ, _<_, _^_}
 use lib.Dec.{leb}
 use lib.IntN.{ℤ, pos}
 use lib.Signed.{_≤ℤ_}
 use lib.ListN.{length, getD}
+use Rattle.numbers.specs.Numbers.{Row, row, done, fails, holds, Follows}
 use Rattle.whole.specs.Zed.{_⊕_, Within}
 use Rattle.clean.specs.None.{noneI64}
 use Rattle.net.specs.Net.{Net, ArcOf, wholeNet, insideNet, has}
@@ -38,8 +39,8 @@ pub record Meets (Arc : ℕ → ℕ → ℤ → Type 0) (page : List ℤ) (v : �
   pub exact : entry page v ≡ entry page u ⊕ c
 
 -- the third clause: each other index below m with a distance is met
-abbrev pub Reached : (ℕ → ℕ → ℤ → Type 0) → ℕ → ℕ → List ℤ → Type 0
-Reached Arc m s page = (v : ℕ) → v < m → (v ≡ s → ⊥) → Known page v → Meets Arc page v
+abbrev pub EachMet : (ℕ → ℕ → ℤ → Type 0) → ℕ → ℕ → List ℤ → Type 0
+EachMet Arc m s page = (v : ℕ) → v < m → (v ≡ s → ⊥) → Known page v → Meets Arc page v
 
 -- an entry that a page may hold: none, or within -2^42 ..= 2^42
 abbrev pub InRange : ℤ → Type 0
@@ -53,7 +54,7 @@ Ranged m page = (v : ℕ) → v < m → InRange (entry page v)
 pub record Right (Arc : ℕ → ℕ → ℤ → Type 0) (m s : ℕ) (page : List ℤ) : Type 0 where
   pub starts : Starts page s
   pub holds : Holds Arc page
-  pub reached : Reached Arc m s page
+  pub reached : EachMet Arc m s page
   pub ranged : Ranged m page
 
 -- nothing that refusal 1 names
@@ -69,15 +70,21 @@ pub record Answer : Type 0 where
 abbrev pub answerOf : ℕ → Bool → Answer
 answerOf n r = record { number = n; yes = r }
 
--- the answer a of the map g, the source s and the page
-pub data Promise (g : Net ℤ) (s : ℕ) (page : List ℤ) (a : Answer) : Type 0 where
-  -- 1: a limit is passed, or a lent slice is shorter than the part used
-  short : a ≡ answerOf 1 false → enough g page ≡ false → Promise g s page a
-  -- 2: a link names an index at or above m, or absent
-  outside : a ≡ answerOf 2 false → enough g page ≡ true → insideNet g ≡ false → Promise g s page a
-  -- 3: a source that is absent or at or above m
-  unknown : a ≡ answerOf 3 false → enough g page ≡ true → insideNet g ≡ true → has g s ≡ false → Promise g s page a
-  -- 0 and yes
-  good : a ≡ answerOf 0 true → enough g page ≡ true → insideNet g ≡ true → has g s ≡ true → Right (ArcOf g) (g .bound) s page → Promise g s page a
-  -- 0 and no
-  bad : a ≡ answerOf 0 false → enough g page ≡ true → insideNet g ≡ true → has g s ≡ true → (Right (ArcOf g) (g .bound) s page → ⊥) → Promise g s page a
+-- the table, of the map g, the source s and the page; y is the word beside the number
+abbrev pub table : Net ℤ → ℕ → List ℤ → List (Row Bool)
+table g s page =
+    -- 1: a limit is passed, or a lent slice is shorter than the part used
+    row 1 (fails (enough g page)) (λ y. y ≡ false)
+    -- 2: a link names an index at or above m, or absent
+    ∷ row 2 (fails (insideNet g)) (λ y. y ≡ false)
+    -- 3: a source that is absent or at or above m
+    ∷ row 3 (fails (has g s)) (λ y. y ≡ false)
+    -- 0 and yes
+    ∷ row 0 (holds (Right (ArcOf g) (g .bound) s page)) (λ y. y ≡ true)
+    -- 0 and no
+    ∷ done (λ y. y ≡ false)
+    ∷ []
+
+-- the answer a is that of the first row whose condition holds
+pub record Promise (g : Net ℤ) (s : ℕ) (page : List ℤ) (a : Answer) : Type 0 where
+  pub follows : Follows (table g s page) (a .yes) (a .number)

@@ -21,7 +21,8 @@ const TOP: i64 = 4398046511104;
 // The least.
 const LOW: i64 = -4398046511104;
 
-// 1 where a limit is passed or a lent slice is too short, 2 where a link names an index that the map has not, 3 where the source is none, else 0.
+// 1 where a limit is passed or a lent slice is too short,
+// 2 where a link names an index that the map has not, 3 where the source is none, else 0.
 fn refusal(
     map: Map,
     marks: &[u8],
@@ -31,7 +32,9 @@ fn refusal(
     source: usize,
     page: &[i64],
 ) -> usize
-    ensures { λ r. ⌜ r ≡ refusalNo (netOf (map .bound) (map .count) (map .directed) (now (marks .entry)) (now (from .entry)) (now (to .entry)) (now (costs .entry))) source (now (page .entry)) ⌝ }
+    ensures { λ r. ⌜ r ≡ refusalNo
+        (netOf (map .bound) (map .count) (map .directed) (now (marks .entry)) (now (from .entry)) (now (to .entry)) (now (costs .entry)))
+        source (now (page .entry)) ⌝ }
 {
     if !net::whole(map, marks, from, to, costs) {
         return 1;
@@ -117,8 +120,10 @@ fn link_holds(
     met: &mut [u8],
     i: usize,
 ) -> bool
-    requires { ⌜ (i < map .count) × Upto (map .directed) (map .bound) (map .count) (now from) (now to) (now costs) i (now page) (now met) ⌝ }
-    ensures { λ r. ⌜ Step (map .directed) (map .bound) (map .count) (now (from .entry)) (now (to .entry)) (now (costs .entry)) i (now (page .entry)) (now (met .exit)) r ⌝ }
+    requires { ⌜ (i < map .count)
+        × Upto (map .directed) (map .bound) (map .count) (now from) (now to) (now costs) i (now page) (now met) ⌝ }
+    ensures { λ r. ⌜ Step (map .directed) (map .bound) (map .count) (now (from .entry)) (now (to .entry)) (now (costs .entry)) i
+        (now (page .entry)) (now (met .exit)) r ⌝ }
 {
     let a = from[i] as usize;
     let b = to[i] as usize;
@@ -141,7 +146,8 @@ fn arcs_hold(
     met: &mut [u8],
 ) -> bool
     requires { ⌜ Upto (map .directed) (map .bound) (map .count) (now from) (now to) (now costs) 0 (now page) (now met) ⌝ }
-    ensures { λ r. ⌜ Scanned (map .directed) (map .count) (now (from .entry)) (now (to .entry)) (now (costs .entry)) (now (page .entry)) (now (met .exit)) r ⌝ }
+    ensures { λ r. ⌜ Scanned (map .directed) (map .count) (now (from .entry)) (now (to .entry)) (now (costs .entry)) (now (page .entry))
+        (now (met .exit)) r ⌝ }
 {
     let n = map.count;
     let mut i: usize = 0;
@@ -194,7 +200,10 @@ fn judge(
     met: &mut [u8],
 ) -> bool
     requires { ⌜ Ripe (map .bound) (map .count) (now from) (now to) (now costs) source (now page) (now met) ⌝ }
-    ensures { λ r. ⌜ Decides (Right (Arc (map .directed) (links (map .count) (now (from .entry)) (now (to .entry)) (now (costs .entry)))) (map .bound) source (now (page .entry))) r ⌝ }
+    ensures { λ r. ⌜ Decides
+        (Right
+        (Arc (map .directed) (links (map .count) (now (from .entry)) (now (to .entry)) (now (costs .entry)))) (map .bound) source
+        (now (page .entry))) r ⌝ }
 {
     let m = map.bound;
     if page[source] != 0 {
@@ -219,12 +228,14 @@ pub fn check(
     source: usize,
     page: &[i64],
 ) -> Checked
-    ensures { λ r. ⌜ Promise (netOf (map .bound) (map .count) (map .directed) (now (marks .entry)) (now (from .entry)) (now (to .entry)) (now (costs .entry))) source (now (page .entry)) (answerOf (r .number) (r .yes)) ⌝ }
+    ensures { λ r. ⌜ Promise
+        (netOf (map .bound) (map .count) (map .directed) (now (marks .entry)) (now (from .entry)) (now (to .entry)) (now (costs .entry)))
+        source (now (page .entry)) (answerOf (r .number) (r .yes)) ⌝ }
 {
-    let no = refusal(map, marks, from, to, costs, source, page);
-    if no != 0 {
+    let refused = refusal(map, marks, from, to, costs, source, page);
+    if refused != 0 {
         return Checked {
-            number: no,
+            number: refused,
             yes: false,
         };
     }

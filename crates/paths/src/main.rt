@@ -38,7 +38,7 @@ fn read_all(buf: &mut [u8]) -> Input
 // A file that is too long is read one byte past the limit, no further. There is no exit status: a failure is told on standard error.
 fn main() {
     let mut file = [0u8; sheet::LIMIT + 1];
-    let mut out = [0u8; sheet::ROOM];
+    let mut out = [0u8; sheet::OUTPUT];
     let input = read_all(&mut file);
     if input.failed {
         io::write_all(STDERR_FILENO, b"paths: standard input cannot be read\n");

@@ -33,7 +33,8 @@ use Rattle.pending.proofs.Dijkstra.{was-taken, rest-none}
 
 module _ (Arc : ℕ → ℕ → ℤ → Type 0) (h : ℕ → ℤ) (o g : ℕ) where
   -- what holds of a state's distances and predecessors
-  low : (s : ℕ → Cell ℤ) → Inv (λ d v. d ⊕ h v) (some g) o Arc s → (d : ℤ) → distOf (s g) ≡ some d → (c : Chain Arc o (λ v. distOf (s v)) (λ v. predOf (s v)) g) (t : ℤ) → Cheapest Arc (passed c) t → t ≤ℤ d
+  low : (s : ℕ → Cell ℤ) → Inv (λ d v. d ⊕ h v) (some g) o Arc s → (d : ℤ) → distOf (s g) ≡ some d → (c : Chain Arc o (λ v. distOf (s v)) (λ v. predOf (s v)) g) (t : ℤ) → Cheapest Arc (passed c) t
+      → t ≤ℤ d
   low s i d q c t k = let x : pos 0 ⊕ t ≤ℤ d = cheapest-low t (pos 0) d (has-dist (i .first)) q c k in omega (arith, zed, sum (pos 0) t)
 
   -- the target, taken
@@ -66,7 +67,8 @@ module _ (Arc : ℕ → ℕ → ℤ → Type 0) (h : ℕ → ℤ) (o g : ℕ) wh
     -- so its distance is the least total
     target-least : Admissible Arc h g → Least Arc o g d
     target-least a =
-        a-star-least {Pend = λ x. (e : ℤ) × (q : Option ℕ) × (s x ≡ has e q true)} settled h (λ v x y k l. cc) (has-dist (i .first)) (omega (arith, zed)) (ap distOf here) (i .walk g d p (record { flag = true; is = here })) (a .at-target) (a .under) first
+        a-star-least {Pend = λ x. (e : ℤ) × (q : Option ℕ) × (s x ≡ has e q true)} settled h (λ v x y k l. cc) (has-dist (i .first)) (omega (arith, zed)) (ap distOf here)
+        (i .walk g d p (record { flag = true; is = here })) (a .at-target) (a .under) first
 
     -- and the path's total
     exact : Admissible Arc h g → (c : Chain Arc o (λ v. distOf (s v)) (λ v. predOf (s v)) g) (r : ℤ) → Cheapest Arc (passed c) r → r ≡ d

@@ -20,14 +20,26 @@ module _ {K C : Type 0} (S : Setting K C) where
   -- at the start the source's key alone
   pub begin-holds : Holds S (upd (λ v. none) (S .source) (some (S .key (S .zero) (S .source)))) (begin S)
   unfolding begin
-  begin-holds = record { pending = λ v d p e. p-go v d p (upd-cases (λ w. out) (S .source) (has (S .zero) none true) v (has d p true) e); held = λ v k e. h-go v k (upd-cases (λ w. none) (S .source) (some (S .key (S .zero) (S .source))) v (some k) e) }
+  begin-holds = record {
+    pending = λ v d p e. p-go v d p (upd-cases (λ w. out) (S .source) (has (S .zero) none true) v (has d p true) e);
+    held = λ v k e. h-go v k (upd-cases (λ w. none) (S .source) (some (S .key (S .zero) (S .source))) v (some k) e);
+  }
     where
-      p-go : (v : ℕ) (d : K) (p : Option ℕ) → ((v ≡ S .source) × (has (S .zero) none true ≡ has d p true)) ⊎ ((v ≡ S .source → ⊥) × (out ≡ has d p true)) → upd (λ w. none) (S .source) (some (S .key (S .zero) (S .source))) v ≡ some (S .key d v)
-      p-go v d p (inl i) = let q = i .1 in let z : S .zero ≡ d = cc in ap (upd (λ w. none) (S .source) (some (S .key (S .zero) (S .source)))) (i .0) ∙ upd-here (λ w. none) (S .source) (some (S .key (S .zero) (S .source))) ∙ (λ j. some (S .key (z j) (sym (i .0) j)))
+      p-go : (v : ℕ) (d : K) (p : Option ℕ) → ((v ≡ S .source) × (has (S .zero) none true ≡ has d p true)) ⊎ ((v ≡ S .source → ⊥) × (out ≡ has d p true))
+          → upd (λ w. none) (S .source) (some (S .key (S .zero) (S .source))) v ≡ some (S .key d v)
+      p-go v d p (inl i) =
+          let q = i .1 in
+          let z : S .zero ≡ d = cc in
+          ap (upd (λ w. none) (S .source) (some (S .key (S .zero) (S .source)))) (i .0) ∙ upd-here (λ w. none) (S .source) (some (S .key (S .zero) (S .source)))
+          ∙ (λ j. some (S .key (z j) (sym (i .0) j)))
       p-go v d p (inr i) = absurd (not-out (i .1))
 
-      h-go : (v : ℕ) (k : K) → ((v ≡ S .source) × (some (S .key (S .zero) (S .source)) ≡ some k)) ⊎ ((v ≡ S .source → ⊥) × (none ≡ some k)) → (d : K) × (p : Option ℕ) × (upd (λ w. out) (S .source) (has (S .zero) none true) v ≡ has d p true) × (k ≡ S .key d v)
-      h-go v k (inl i) = let q = i .1 in let z : k ≡ S .key (S .zero) (S .source) = cc in (S .zero, none, ap (upd (λ w. out) (S .source) (has (S .zero) none true)) (i .0) ∙ upd-here (λ w. out) (S .source) (has (S .zero) none true), z ∙ ap (S .key (S .zero)) (sym (i .0)))
+      h-go : (v : ℕ) (k : K) → ((v ≡ S .source) × (some (S .key (S .zero) (S .source)) ≡ some k)) ⊎ ((v ≡ S .source → ⊥) × (none ≡ some k))
+          → (d : K) × (p : Option ℕ) × (upd (λ w. out) (S .source) (has (S .zero) none true) v ≡ has d p true) × (k ≡ S .key d v)
+      h-go v k (inl i) =
+          let q = i .1 in
+          let z : k ≡ S .key (S .zero) (S .source) = cc in
+          (S .zero, none, ap (upd (λ w. out) (S .source) (has (S .zero) none true)) (i .0) ∙ upd-here (λ w. out) (S .source) (has (S .zero) none true), z ∙ ap (S .key (S .zero)) (sym (i .0)))
       h-go v k (inr i) = absurd (not-none (i .1))
 
   module _ {content : ℕ → Option K} {s : ℕ → Cell K} (h : Holds S content s) where
@@ -61,7 +73,8 @@ module _ {K C : Type 0} (S : Setting K C) where
         p-go w x q (inl i) = let j = i .1 in let z : n ≡ x = cc in ap (upd content v (some (S .key n v))) (i .0) ∙ upd-here content v (some (S .key n v)) ∙ (λ l. some (S .key (z l) (sym (i .0) l)))
         p-go w x q (inr i) = upd-there content v (some (S .key n v)) w (i .0) ∙ h .pending w x q (i .1)
 
-        h-go : (w : ℕ) (k : K) → ((w ≡ v) × (some (S .key n v) ≡ some k)) ⊎ ((w ≡ v → ⊥) × (content w ≡ some k)) → (x : K) × (q : Option ℕ) × (upd s v (has n p true) w ≡ has x q true) × (k ≡ S .key x w)
+        h-go : (w : ℕ) (k : K) → ((w ≡ v) × (some (S .key n v) ≡ some k)) ⊎ ((w ≡ v → ⊥) × (content w ≡ some k))
+            → (x : K) × (q : Option ℕ) × (upd s v (has n p true) w ≡ has x q true) × (k ≡ S .key x w)
         h-go w k (inl i) = let j = i .1 in let z : k ≡ S .key n v = cc in (n, p, ap (upd s v (has n p true)) (i .0) ∙ upd-here s v (has n p true), z ∙ ap (S .key n) (sym (i .0)))
         h-go w k (inr i) = let y = h .held w k (i .1) in (y .0, y .1, upd-there s v (has n p true) w (i .0) ∙ y .2, y .3)
 

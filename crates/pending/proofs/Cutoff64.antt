@@ -52,5 +52,6 @@ pub infinite-cutoff64 : (o : ℕ) (Arc : ℕ → ℕ → ℕ → Type 0) (e : En
 infinite-cutoff64 = same-cutoff64 (At (inf false)) None (λ x p. past-infinity x ∙ sym (past-none x))
 
 -- a cutoff below 0.0 keeps the source alone
-pub source-alone64 : (c : Float) → T (fits binary64 c) → lt c (ofBits binary64 zero64) ≡ true → (o : ℕ) (Arc : ℕ → ℕ → ℕ → Type 0) (e : End ℕ) → Ends64 Arc (At c) o e → (v : ℕ) → (v ≡ o → ⊥) → e .dist v ≡ none
+pub source-alone64 : (c : Float) → T (fits binary64 c) → lt c (ofBits binary64 zero64) ≡ true → (o : ℕ) (Arc : ℕ → ℕ → ℕ → Type 0) (e : End ℕ) → Ends64 Arc (At c) o e → (v : ℕ) → (v ≡ o → ⊥)
+    → e .dist v ≡ none
 source-alone64 c h b o Arc = source-alone (search64 (past (At c)) none o) (laws64 (past (At c)) none o) (λ x p. past-below c x h p b) Arc

@@ -86,7 +86,8 @@ module _ (Arc : ℕ → ℕ → ℤ → Type 0) (o : ℕ) where
       listed v t w (some d) q = k .all v d q
 
   -- the answer, from how the search ended
-  from-final : {e : End ℤ} → Final (λ d v. d) none o Arc e → (e .number ≡ 0 → Counted (dijkstra o) (whole-laws (λ d v. d) none o) (λ d v. refl) (λ d c x. whole-grows d c) Arc e) → DijkstraAnswer Arc o e
+  from-final : {e : End ℤ} → Final (λ d v. d) none o Arc e → (e .number ≡ 0 → Counted (dijkstra o) (whole-laws (λ d v. d) none o) (λ d v. refl) (λ d c x. whole-grows d c) Arc e)
+      → DijkstraAnswer Arc o e
   from-final (rested s n h f) k = record {
     number = inl refl;
     least = λ q. rest-least (λ d v. d) none o Arc s h f;
@@ -113,7 +114,8 @@ module _ (Arc : ℕ → ℕ → ℤ → Type 0) (o : ℕ) where
   pub dijkstra-answer : {e : End ℤ} → Ends (dijkstra o) Arc (begin (dijkstra o)) 0 e → DijkstraAnswer Arc o e
   dijkstra-answer r =
       from-final (final (λ d v. d) none o Arc (begin-inv (λ d v. d) none o Arc) r)
-      (λ q. counted (dijkstra o) (whole-laws (λ d v. d) none o) (λ d v. refl) (λ d c x. whole-grows d c) Arc (λ u g. absurd (true≢false (sym g))) (begin-once (dijkstra o) (whole-laws (λ d v. d) none o) (λ d v. refl) (λ d c x. whole-grows d c) Arc) r q)
+      (λ q. counted (dijkstra o) (whole-laws (λ d v. d) none o) (λ d v. refl) (λ d c x. whole-grows d c) Arc (λ u g. absurd (true≢false (sym g)))
+      (begin-once (dijkstra o) (whole-laws (λ d v. d) none o) (λ d v. refl) (λ d c x. whole-grows d c) Arc) r q)
 
 -- every list of the indices in reach is as long as the takes are many
 pub takes-all : {Arc : ℕ → ℕ → ℤ → Type 0} {o : ℕ} {e : End ℤ} → DijkstraAnswer Arc o e → e .number ≡ 0 → (l : List ℕ) → Reachable Arc o l → e .takes ≡ length l

@@ -91,7 +91,8 @@ pub exact : (Arc : ℕ → ℕ → ℤ → Type 0) (arcs : ℕ → List (ℕ × 
     → (o : ℕ) (ps : List ℕ) → In o ps → ((u v : ℕ) (c : ℤ) → Arc u v c → In v ps) → length ps ≤ 1024
     → (e : End ℤ) → Ends (dijkstra o) Arc (begin (dijkstra o)) 0 e → (f : End ℕ) × Ends64 (ArcOf arcs) None o f × AlikeEnd WholeDist e f
 exact Arc arcs to from o ps i heads few e r =
-    ends-alike (dijkstra o) (search64 (past None) none o) (laws64 (past None) none o) WholeDist WholeCost 1024 wider same-lt (λ j a x v n k. k) same-plus (λ j a x n k. sym (past-none x)) same-bad refl Arc arcs to from
+    ends-alike (dijkstra o) (search64 (past None) none o) (laws64 (past None) none o) WholeDist WholeCost 1024 wider same-lt (λ j a x v n k. k) same-plus (λ j a x n k. sym (past-none x)) same-bad refl
+    Arc arcs to from
     (begin-ok (search64 (past None) none o) (laws64 (past None) none o)) start r bound
   where
     bound : e .takes ≤ 1024

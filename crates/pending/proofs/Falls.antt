@@ -115,13 +115,15 @@ module _ (key : ℤ → ℕ → ℤ) (target : Option ℕ) (o : ℕ) (Arc : ℕ 
   pub at-own : Less (without (t (w .u))) (without (s (w .u))) (weight (t (w .u))) (weight (s (w .u)))
   at-own = go (w .turned (w .u))
     where
-      old : ((w .u ≡ w .u) × (has (w .d) (w .p) false ≡ t (w .u))) ⊎ ((w .u ≡ w .u → ⊥) × (s (w .u) ≡ t (w .u))) → Less (without (t (w .u))) (without (s (w .u))) (weight (t (w .u))) (weight (s (w .u)))
+      old : ((w .u ≡ w .u) × (has (w .d) (w .p) false ≡ t (w .u))) ⊎ ((w .u ≡ w .u → ⊥) × (s (w .u) ≡ t (w .u)))
+          → Less (without (t (w .u))) (without (s (w .u))) (weight (t (w .u))) (weight (s (w .u)))
       old (inl i) =
           subst (λ (y : Cell ℤ). Less (without y) (without (s (w .u))) (weight y) (weight (s (w .u)))) (i .1)
           (subst (λ (y : Cell ℤ). Less 0 (without y) (2 * P (w .d)) (weight y)) (sym (w .taken .held)) (inr (refl, omega arith)))
       old (inr i) = absurd (i .0 refl)
 
-      go : NewCell (whole key target o) (Arc (w .u) (w .u)) (w .u) (w .d) (upd s (w .u) (has (w .d) (w .p) false) (w .u)) (t (w .u)) → Less (without (t (w .u))) (without (s (w .u))) (weight (t (w .u))) (weight (s (w .u)))
+      go : NewCell (whole key target o) (Arc (w .u) (w .u)) (w .u) (w .d) (upd s (w .u) (has (w .d) (w .p) false) (w .u)) (t (w .u))
+          → Less (without (t (w .u))) (without (s (w .u))) (weight (t (w .u))) (weight (s (w .u)))
       go (stays f e) = old (upd-cases s (w .u) (has (w .d) (w .p) false) (w .u) (t (w .u)) (sym e))
       go (stores c a k b m e) = stored (w .u) c a b e (s (w .u)) refl
 

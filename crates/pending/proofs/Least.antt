@@ -70,13 +70,15 @@ module _ {K C : Type 0} (S : Setting K C) where
       on b (inl e) = inl e
       on b (inr i) = inr (List·Memᴰ·tail i)
 
-      rest : (b : Bool) → (List·Memᴰ r (pick b q p ∷ l) → (r ≡ least S (pick b q p) l) ⊎ List·Memᴰ r (others S (pick b q p) l)) → (r ≡ q) ⊎ List·Memᴰ r l → (r ≡ least S (pick b q p) l) ⊎ List·Memᴰ r (pick b p q ∷ others S (pick b q p) l)
+      rest : (b : Bool) → (List·Memᴰ r (pick b q p ∷ l) → (r ≡ least S (pick b q p) l) ⊎ List·Memᴰ r (others S (pick b q p) l)) → (r ≡ q) ⊎ List·Memᴰ r l
+          → (r ≡ least S (pick b q p) l) ⊎ List·Memᴰ r (pick b p q ∷ others S (pick b q p) l)
       rest true f (inl e) = on true (f (List·Memᴰ·head e))
       rest false f (inl e) = inr (List·Memᴰ·head e)
       rest true f (inr i) = on true (f (List·Memᴰ·tail i))
       rest false f (inr i) = on false (f (List·Memᴰ·tail i))
 
-      go : (b : Bool) → (List·Memᴰ r (pick b q p ∷ l) → (r ≡ least S (pick b q p) l) ⊎ List·Memᴰ r (others S (pick b q p) l)) → (r ≡ p) ⊎ List·Memᴰ r (q ∷ l) → (r ≡ least S (pick b q p) l) ⊎ List·Memᴰ r (pick b p q ∷ others S (pick b q p) l)
+      go : (b : Bool) → (List·Memᴰ r (pick b q p ∷ l) → (r ≡ least S (pick b q p) l) ⊎ List·Memᴰ r (others S (pick b q p) l)) → (r ≡ p) ⊎ List·Memᴰ r (q ∷ l)
+          → (r ≡ least S (pick b q p) l) ⊎ List·Memᴰ r (pick b p q ∷ others S (pick b q p) l)
       go true f (inl e) = inr (List·Memᴰ·head e)
       go false f (inl e) = on false (f (List·Memᴰ·head e))
       go true f (inr i) = rest true f (List·Memᴰ·cases-cons i)
@@ -118,7 +120,8 @@ module _ {K C : Type 0} (S : Setting K C) where
     least-low p [] oks r m = alone (List·Memᴰ·cases-cons m)
       where
         own : first S p p ≡ false
-        own = is-not-before (L .order) (S .key (p .at) (p .ix)) (p .ix) (S .key (p .at) (p .ix)) (p .ix) (self (L .order) _ (L .key-ok (p .at) (p .ix) (oks p (List·Memᴰ·head refl)))) (λ e. omega arith)
+        own =
+            is-not-before (L .order) (S .key (p .at) (p .ix)) (p .ix) (S .key (p .at) (p .ix)) (p .ix) (self (L .order) _ (L .key-ok (p .at) (p .ix) (oks p (List·Memᴰ·head refl)))) (λ e. omega arith)
 
         alone : (r ≡ p) ⊎ List·Memᴰ r [] → first S r p ≡ false
         alone (inl e) = ap (λ (z : Pair K). first S z p) e ∙ own
@@ -149,7 +152,8 @@ module _ {K C : Type 0} (S : Setting K C) where
         least-ok : (b : Bool) → ok (least S (pick b q p) l .at)
         least-ok b = fine b (least S (pick b q p) l) (least-in (pick b q p) l)
 
-        low : (b : Bool) → ((r : Pair K) → List·Memᴰ r (pick b q p ∷ l) → first S r (least S (pick b q p) l) ≡ false) → first S q p ≡ b → (x : Pair K) → (x ≡ p) ⊎ ((x ≡ q) ⊎ List·Memᴰ x l) → first S x (least S (pick b q p) l) ≡ false
+        low : (b : Bool) → ((r : Pair K) → List·Memᴰ r (pick b q p ∷ l) → first S r (least S (pick b q p) l) ≡ false) → first S q p ≡ b → (x : Pair K) → (x ≡ p) ⊎ ((x ≡ q) ⊎ List·Memᴰ x l)
+            → first S x (least S (pick b q p) l) ≡ false
         low true f e x (inl i) = ap (λ (z : Pair K). first S z (least S q l)) i ∙ neg p q (least S q l) p-ok q-ok (least-ok true) (turn q p q-ok p-ok e) (f q (List·Memᴰ·head refl))
         low false f e x (inl i) = f x (List·Memᴰ·head i)
         low true f e x (inr (inl i)) = f x (List·Memᴰ·head i)
@@ -161,5 +165,6 @@ module _ {K C : Type 0} (S : Setting K C) where
         spread (inl e) = inl e
         spread (inr i) = inr (List·Memᴰ·cases-cons i)
 
-        go : (b : Bool) → first S q p ≡ b → (((r : Pair K) → List·Memᴰ r (pick b q p ∷ l) → ok (r .at)) → (r : Pair K) → List·Memᴰ r (pick b q p ∷ l) → first S r (least S (pick b q p) l) ≡ false) → (r ≡ p) ⊎ List·Memᴰ r (q ∷ l) → first S r (least S (pick b q p) l) ≡ false
+        go : (b : Bool) → first S q p ≡ b → (((r : Pair K) → List·Memᴰ r (pick b q p ∷ l) → ok (r .at)) → (r : Pair K) → List·Memᴰ r (pick b q p ∷ l) → first S r (least S (pick b q p) l) ≡ false)
+            → (r ≡ p) ⊎ List·Memᴰ r (q ∷ l) → first S r (least S (pick b q p) l) ≡ false
         go b e f m = low b (f (fine b)) e r (spread m)

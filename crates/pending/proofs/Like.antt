@@ -73,7 +73,9 @@ module _ {K C K' C' : Type 0} (S : Setting K C) (S' : Setting K' C') {ok' : K' �
 
   -- the same index is taken
   same-takes : {j : ℕ} {s : ℕ → Cell K} {s' : ℕ → Cell K'} {u : ℕ} {d : K} {p : Option ℕ} → j ≤ top → ((v : ℕ) → Alike R j (s v) (s' v)) → Takes S s u d p → (d' : K') × Takes S' s' u d' p × R j d d'
-  same-takes {j} {s} {s'} {u} {d} {p} o h t = let k = has-on (h u) (t .held) in (k .0, record { held = k .1; least = λ v y q e. let l = has-back (h v) e in sym (same-before j (l .0) y v d (k .0) u o (l .2) (k .2)) ∙ t .least v (l .0) q (l .1) }, k .2)
+  same-takes {j} {s} {s'} {u} {d} {p} o h t =
+      let k = has-on (h u) (t .held) in
+      (k .0, record { held = k .1; least = λ v y q e. let l = has-back (h v) e in sym (same-before j (l .0) y v d (k .0) u o (l .2) (k .2)) ∙ t .least v (l .0) q (l .1) }, k .2)
 
   -- ---- one index of a turn
   module _ (j : ℕ) (o : suc j ≤ top) (u v : ℕ) (d : K) (d' : K') (r : R j d d') (d-ok : ok' d') (good' : (b : C') → ArcOf arcs' u v b → S' .bad b ≡ false) where
@@ -99,11 +101,14 @@ module _ {K C K' C' : Type 0} (S : Setting K C) (S' : Setting K' C') {ok' : K' �
         let z = sums (y .0) b (y .2) in
         let low = m' (x .0) (x .1) (sym (same-cut (suc j) _ _ o w) ∙ k) in
         let high = sym (same-lt (suc j) _ _ _ _ o z w) ∙ m (y .0) (y .1) (same-cut (suc j) _ _ o z ∙ k') in
-        let q : S' .plus d' (x .0) ≡ S' .plus d' b = L' .order .same (S' .plus d' (x .0)) (S' .plus d' b) (L' .plus-ok d' (x .0) d-ok (good' (x .0) (x .1))) (L' .plus-ok d' b d-ok (good' b a')) low high in
-        subst (λ (i : Cell K). Alike R (suc j) i new') (sym e) (subst (λ (i : Cell K'). Alike R (suc j) (has (S .plus d c) (some u) true) i) (ap (λ (i : K'). has i (some u) true) q ∙ sym e') (a-has w))
+        let q : S' .plus d' (x .0) ≡ S' .plus d' b =
+        L' .order .same (S' .plus d' (x .0)) (S' .plus d' b) (L' .plus-ok d' (x .0) d-ok (good' (x .0) (x .1))) (L' .plus-ok d' b d-ok (good' b a')) low high in
+        subst (λ (i : Cell K). Alike R (suc j) i new') (sym e)
+        (subst (λ (i : Cell K'). Alike R (suc j) (has (S .plus d c) (some u) true) i) (ap (λ (i : K'). has i (some u) true) q ∙ sym e') (a-has w))
 
   -- ---- a turn
-  pop-alike : {j : ℕ} {s : ℕ → Cell K} {s' : ℕ → Cell K'} (u : ℕ) (d : K) (d' : K') (p : Option ℕ) → R j d d' → ((v : ℕ) → Alike R j (s v) (s' v)) → (v : ℕ) → Alike R j (upd s u (has d p false) v) (upd s' u (has d' p false) v)
+  pop-alike : {j : ℕ} {s : ℕ → Cell K} {s' : ℕ → Cell K'} (u : ℕ) (d : K) (d' : K') (p : Option ℕ) → R j d d' → ((v : ℕ) → Alike R j (s v) (s' v)) → (v : ℕ)
+      → Alike R j (upd s u (has d p false) v) (upd s' u (has d' p false) v)
   pop-alike {j} {s} {s'} u d d' p r h v = go (eqb v u)
     where
       go : (b : Bool) → Alike R j (pick b (has d p false) (s v)) (pick b (has d' p false) (s' v))
@@ -111,7 +116,8 @@ module _ {K C K' C' : Type 0} (S : Setting K C) (S' : Setting K' C') {ok' : K' �
       go false = h v
 
   -- where the first search goes on, so does the second
-  next-alike : {j : ℕ} {s t : ℕ → Cell K} {s' : ℕ → Cell K'} → suc j ≤ top → ((v : ℕ) → OkCell ok' (s' v)) → ((v : ℕ) → Alike R j (s v) (s' v)) → Next S Arc s t → (t' : ℕ → Cell K') × Next S' (ArcOf arcs') s' t' × ((v : ℕ) → Alike R (suc j) (t v) (t' v))
+  next-alike : {j : ℕ} {s t : ℕ → Cell K} {s' : ℕ → Cell K'} → suc j ≤ top → ((v : ℕ) → OkCell ok' (s' v)) → ((v : ℕ) → Alike R j (s v) (s' v)) → Next S Arc s t
+      → (t' : ℕ → Cell K') × Next S' (ArcOf arcs') s' t' × ((v : ℕ) → Alike R (suc j) (t v) (t' v))
   next-alike {j} {s} {t} {s'} o oks h w = (t', nx, λ v. new-alike j o (w .u) v (w .d) d' (tk .2) d-ok (good' v) (on-cell (pop-alike (w .u) (w .d) d' (w .p) (tk .2) h v)) (w .turned v) (turned' v))
     where
       tk : (d' : K') × Takes S' s' (w .u) d' (w .p) × R j (w .d) d'
@@ -130,7 +136,9 @@ module _ {K C K' C' : Type 0} (S : Setting K C) (S' : Setting K' C') {ok' : K' �
       t' = rowCells S' (w .u) (tk .0) (arcs' (w .u)) (upd s' (w .u) (has (tk .0) (w .p) false))
 
       turned' : Turned S' (ArcOf arcs' (w .u)) (w .u) (tk .0) (upd s' (w .u) (has (tk .0) (w .p) false)) t'
-      turned' = row-turned S' L' (w .u) (tk .0) d-ok (ArcOf arcs' (w .u)) (arcs' (w .u)) (upd s' (w .u) (has (tk .0) (w .p) false)) (λ v c m. m) (λ v c m. m) good' (upd-all (OkCell ok') s' (w .u) (has (tk .0) (w .p) false) oks d-ok)
+      turned' =
+          row-turned S' L' (w .u) (tk .0) d-ok (ArcOf arcs' (w .u)) (arcs' (w .u)) (upd s' (w .u) (has (tk .0) (w .p) false)) (λ v c m. m) (λ v c m. m) good'
+          (upd-all (OkCell ok') s' (w .u) (has (tk .0) (w .p) false) oks d-ok)
 
       nx : Next S' (ArcOf arcs') s' t'
       nx = record { u = w .u; d = tk .0; p = w .p; taken = tk .1; passed = ap (λ (z : Option ℕ). isTarget z (w .u)) (sym same-target) ∙ w .passed; good = good'; turned = turned' }
@@ -152,7 +160,8 @@ module _ {K C K' C' : Type 0} (S : Setting K C) (S' : Setting K' C') {ok' : K' �
       n-go (a-has r) e = absurd (let z : _≡_ {A = ℕ} 0 1 = cc in omega arith)
 
   -- the first search ends, in no more takes than the bound: the second ends alike
-  pub ends-alike : {s : ℕ → Cell K} {s' : ℕ → Cell K'} {n : ℕ} {e : End K} → ((v : ℕ) → OkCell ok' (s' v)) → ((v : ℕ) → Alike R n (s v) (s' v)) → Ends S Arc s n e → e .takes ≤ top → (f : End K') × Ends S' (ArcOf arcs') s' n f × AlikeEnd R e f
+  pub ends-alike : {s : ℕ → Cell K} {s' : ℕ → Cell K'} {n : ℕ} {e : End K} → ((v : ℕ) → OkCell ok' (s' v)) → ((v : ℕ) → Alike R n (s v) (s' v)) → Ends S Arc s n e → e .takes ≤ top
+      → (f : End K') × Ends S' (ArcOf arcs') s' n f × AlikeEnd R e f
   ends-alike {s'} {n} oks h (empty f) o = (doneAt s' n, empty (λ v y p i. let k = has-back (h v) i in f v (k .0) p (k .1)), done-alike n h)
   ends-alike {s'} {n} oks h (found u d p t g) o =
       let k = same-takes (omega arith) h t in

@@ -14,7 +14,8 @@ module _ {K C : Type 0} (S : Setting K C) (arcs : ℕ → List (ℕ × C)) where
   run-ends zero s e h = absurd (let z : _≡_ {A = ℕ} 0 1 = cc in omega arith)
   run-ends (suc n) s e h = go (turn S arcs s) refl h (λ t. run-ends n t e)
     where
-      go : (a : After K) → turn S arcs s ≡ a → elim a as (λ x. Option (End K)) [ goes t ↦ run S arcs n t | ends f ↦ some f ] ≡ some e → ((t : State K) → run S arcs n t ≡ some e → Ends S arcs t e) → Ends S arcs s e
+      go : (a : After K) → turn S arcs s ≡ a → elim a as (λ x. Option (End K)) [ goes t ↦ run S arcs n t | ends f ↦ some f ] ≡ some e → ((t : State K) → run S arcs n t ≡ some e → Ends S arcs t e)
+          → Ends S arcs s e
       go (goes t) p q f = more p (f t q)
       go (ends f) p q g = let k : f ≡ e = cc in last (p ∙ ap ends k)
 

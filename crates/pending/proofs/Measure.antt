@@ -69,7 +69,8 @@ module _ (M : ℕ) where
     -- every turn lowers the load of the indices
     pub load-falls : (l : List ℕ) → In (w .u) l → over (load M) t l < over (load M) s l
     load-falls (v ∷ l) (here e) =
-        let a : load M (t v) < load M (s v) = subst (λ (x : ℕ). load M (t x) < load M (s x)) e (one-less (without (t (w .u))) (without (s (w .u))) (weight (t (w .u))) (weight (s (w .u))) (under (t (w .u)) (bounded (w .u))) (at-own key target o Arc h w)) in
+        let a : load M (t v) < load M (s v) = subst (λ (x : ℕ). load M (t x) < load M (s x)) e
+        (one-less (without (t (w .u))) (without (s (w .u))) (weight (t (w .u))) (weight (s (w .u))) (under (t (w .u)) (bounded (w .u))) (at-own key target o Arc h w)) in
         let b = all l in
         omega arith
     load-falls (v ∷ l) (there i) = let a = at v in let b = load-falls l i in omega arith

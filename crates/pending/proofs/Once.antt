@@ -144,7 +144,9 @@ module _ {K C : Type 0} (S : Setting K C) {ok : K → Type 0} (L : Laws S ok) (p
     (ps : List ℕ) (source-in : In (S .source) ps) (heads-in : (u v : ℕ) (c : C) → ArcOf arcs u v c → In v ps) where
   -- such a search ends
   pub plain-ends : (e : End K) × Lit.Ends S arcs (Lit.start S) e × Ends S (ArcOf arcs) (begin S) 0 e
-  plain-ends = search-ends S L arcs (λ s n. Once S L plain grows (ArcOf arcs) s n × Within ps s) (λ s n. length ps - n) (λ s n. 0) falls (begin-once S L plain grows (ArcOf arcs), begin-within S (ArcOf arcs) ps source-in heads-in)
+  plain-ends =
+      search-ends S L arcs (λ s n. Once S L plain grows (ArcOf arcs) s n × Within ps s) (λ s n. length ps - n) (λ s n. 0) falls
+      (begin-once S L plain grows (ArcOf arcs), begin-within S (ArcOf arcs) ps source-in heads-in)
     where
       falls : (s t : ℕ → Cell K) (n : ℕ) → Once S L plain grows (ArcOf arcs) s n × Within ps s → Next S (ArcOf arcs) s t
           → (Once S L plain grows (ArcOf arcs) t (suc n) × Within ps t) × ((length ps - suc n < length ps - n) ⊎ ((length ps - suc n ≤ length ps - n) × (0 < 0)))

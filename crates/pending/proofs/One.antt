@@ -33,7 +33,8 @@ module _ {K C : Type 0} (S : Setting K C) {ok : K → Type 0} (L : Laws S ok) wh
   -- ---- one index is taken
   pub takes-one : {s : ℕ → Cell K} {u u' : ℕ} {d d' : K} {p p' : Option ℕ} → ((v : ℕ) → OkCell ok (s v)) → Takes S s u d p → Takes S s u' d' p' → (u ≡ u') × (d ≡ d') × (p ≡ p')
   takes-one {s} {u} {u'} {d} {d'} {p} {p'} oks t t' =
-      let a = before-same (L .order) (S .key d u) u (S .key d' u') u' (L .key-ok d u (cell-ok ok (t .held) (oks u))) (L .key-ok d' u' (cell-ok ok (t' .held) (oks u'))) (t' .least u d p (t .held)) (t .least u' d' p' (t' .held)) in
+      let a = before-same (L .order) (S .key d u) u (S .key d' u') u' (L .key-ok d u (cell-ok ok (t .held) (oks u))) (L .key-ok d' u' (cell-ok ok (t' .held) (oks u'))) (t' .least u d p (t .held))
+      (t .least u' d' p' (t' .held)) in
       let e : has d p true ≡ has d' p' true = sym (t .held) ∙ ap s (a .1) ∙ t' .held in
       (a .1, (cc), (cc))
 
@@ -70,7 +71,8 @@ module _ {K C : Type 0} (S : Setting K C) {ok : K → Type 0} (L : Laws S ok) wh
             (subst (λ (z : K). Turned S (Arc u') u' z (upd s u' (has z p false)) t') b (subst (λ (z : Option ℕ). Turned S (Arc u') u' d' (upd s u' (has d' z false)) t') c h))
 
     -- a search that takes the target, or an index with a bad arc, does not go on
-    pub stuck : {s : ℕ → Cell K} {u u' : ℕ} {d d' : K} {p p' : Option ℕ} → ((v : ℕ) → OkCell ok (s v)) → Takes S s u d p → Takes S s u' d' p' → isTarget (S .target) u ≡ true → isTarget (S .target) u' ≡ false → ⊥
+    pub stuck : {s : ℕ → Cell K} {u u' : ℕ} {d d' : K} {p p' : Option ℕ} → ((v : ℕ) → OkCell ok (s v)) → Takes S s u d p → Takes S s u' d' p' → isTarget (S .target) u ≡ true
+        → isTarget (S .target) u' ≡ false → ⊥
     stuck oks t t' e f = clash (ap (isTarget (S .target)) (sym (takes-one oks t t' .0)) ∙ e) f
 
     -- a bad arc and none
@@ -105,7 +107,8 @@ number-is (wrong u d p t g v c a b) = inr refl
 number-is (more w r) = number-is r
 
 -- and with 0 where no arc is bad
-pub all-good : {K C : Type 0} {S : Setting K C} {Arc : ℕ → ℕ → C → Type 0} → ((u v : ℕ) (c : C) → Arc u v c → S .bad c ≡ false) → {s : ℕ → Cell K} {n : ℕ} {e : End K} → Ends S Arc s n e → e .number ≡ 0
+pub all-good : {K C : Type 0} {S : Setting K C} {Arc : ℕ → ℕ → C → Type 0} → ((u v : ℕ) (c : C) → Arc u v c → S .bad c ≡ false) → {s : ℕ → Cell K} {n : ℕ} {e : End K} → Ends S Arc s n e
+    → e .number ≡ 0
 all-good h (empty f) = refl
 all-good h (found u d p t g) = refl
 all-good h (wrong u d p t g v c a b) = absurd (clash b (h u v c a))

@@ -75,21 +75,31 @@ module _ {K C : Type 0} (S : Setting K C) where
           skip k (stays f e) = stays (λ c i h. elim i [ inl a ↦ f c a h | inr q ↦ absurd (clash k (ap (λ (z : C). S .cut (S .plus d z)) (sym q) ∙ h)) ]) e
           skip k (stores c a h b m e) = stores c (inl a) h b (λ b' i h'. elim i [ inl a' ↦ m b' a' h' | inr q ↦ absurd (clash k (ap (λ (z : C). S .cut (S .plus d z)) (sym q) ∙ h')) ]) e
 
-          try : S .cut (S .plus d c₀) ≡ false → NewCell S A u d old new → (t : Bool) → better S (S .plus d c₀) (distOf new) ≡ t → NewCell S (λ c. A c ⊎ (c ≡ c₀)) u d old (pick t (has (S .plus d c₀) (some u) true) new)
-          try k (stays f e) false b = stays (λ c i h. elim i [ inl a ↦ f c a h | inr q ↦ ap (λ (z : C). better S (S .plus d z) (distOf old)) q ∙ ap (λ (z : Cell K). better S (S .plus d c₀) (distOf z)) (sym e) ∙ b ]) e
+          try : S .cut (S .plus d c₀) ≡ false → NewCell S A u d old new → (t : Bool) → better S (S .plus d c₀) (distOf new) ≡ t
+              → NewCell S (λ c. A c ⊎ (c ≡ c₀)) u d old (pick t (has (S .plus d c₀) (some u) true) new)
+          try k (stays f e) false b =
+              stays (λ c i h. elim i [ inl a ↦ f c a h | inr q ↦ ap (λ (z : C). better S (S .plus d z) (distOf old)) q ∙ ap (λ (z : Cell K). better S (S .plus d c₀) (distOf z)) (sym e) ∙ b ]) e
           try k (stays f e) true b =
               let b' : better S (S .plus d c₀) (distOf old) ≡ true = ap (λ (z : Cell K). better S (S .plus d c₀) (distOf z)) (sym e) ∙ b in
-              stores c₀ (inr refl) k b' (λ c i h. elim i [ inl a ↦ not-below old o (S .plus d c) (S .plus d c₀) (sum-ok c a) n₀-ok (f c a h) b' | inr q ↦ ap (λ (z : C). S .lt (S .plus d z) (S .plus d c₀)) q ∙ self (L .order) (S .plus d c₀) n₀-ok ]) refl
+              stores c₀ (inr refl) k b' (λ c i h.
+              elim i [
+                | inl a ↦ not-below old o (S .plus d c) (S .plus d c₀) (sum-ok c a) n₀-ok (f c a h) b'
+                | inr q ↦ ap (λ (z : C). S .lt (S .plus d z) (S .plus d c₀)) q ∙ self (L .order) (S .plus d c₀) n₀-ok
+              ]) refl
           try k (stores c a h g m e) false b =
               let b' : S .lt (S .plus d c₀) (S .plus d c) ≡ false = ap (λ (z : Cell K). better S (S .plus d c₀) (distOf z)) (sym e) ∙ b in
               stores c (inl a) h g (λ c' i h'. elim i [ inl a' ↦ m c' a' h' | inr q ↦ ap (λ (z : C). S .lt (S .plus d z) (S .plus d c)) q ∙ b' ]) e
           try k (stores c a h g m e) true b =
               let b' : S .lt (S .plus d c₀) (S .plus d c) ≡ true = ap (λ (z : Cell K). better S (S .plus d c₀) (distOf z)) (sym e) ∙ b in
               stores c₀ (inr refl) k (yet-better old o (S .plus d c₀) (S .plus d c) n₀-ok (sum-ok c a) b' g)
-              (λ c' i h'. elim i [ inl a' ↦ worse (S .plus d c) (S .plus d c') (S .plus d c₀) (sum-ok c a) (sum-ok c' a') n₀-ok (m c' a' h') b' | inr q ↦ ap (λ (z : C). S .lt (S .plus d z) (S .plus d c₀)) q ∙ self (L .order) (S .plus d c₀) n₀-ok ])
+              (λ c' i h'. elim i [
+                | inl a' ↦ worse (S .plus d c) (S .plus d c') (S .plus d c₀) (sum-ok c a) (sum-ok c' a') n₀-ok (m c' a' h') b'
+                | inr q ↦ ap (λ (z : C). S .lt (S .plus d z) (S .plus d c₀)) q ∙ self (L .order) (S .plus d c₀) n₀-ok
+              ])
               refl
 
-          by : (t : Bool) → S .cut (S .plus d c₀) ≡ t → NewCell S A u d old new → NewCell S (λ c. A c ⊎ (c ≡ c₀)) u d old (pick t new (pick (better S (S .plus d c₀) (distOf new)) (has (S .plus d c₀) (some u) true) new))
+          by : (t : Bool) → S .cut (S .plus d c₀) ≡ t → NewCell S A u d old new
+              → NewCell S (λ c. A c ⊎ (c ≡ c₀)) u d old (pick t new (pick (better S (S .plus d c₀) (distOf new)) (has (S .plus d c₀) (some u) true) new))
           by true k w = skip k w
           by false k w = try k w (better S (S .plus d c₀) (distOf new)) refl
 
@@ -108,7 +118,8 @@ module _ {K C : Type 0} (S : Setting K C) where
         go false f g = new-map (λ c a. inl a) (λ c i. elim i [ inl a ↦ a | inr q ↦ absurd (g refl (q .0)) ]) (w v)
 
     -- a row after the arcs of A
-    rows : (A : ℕ → C → Type 0) (l : List (ℕ × C)) {s t : ℕ → Cell K} → ((v : ℕ) (c : C) → A v c → S .bad c ≡ false) → ((v : ℕ) (c : C) → List·Memᴰ (v, c) l → S .bad c ≡ false) → ((v : ℕ) → OkCell ok (s v))
+    rows : (A : ℕ → C → Type 0) (l : List (ℕ × C)) {s t : ℕ → Cell K} → ((v : ℕ) (c : C) → A v c → S .bad c ≡ false) → ((v : ℕ) (c : C) → List·Memᴰ (v, c) l → S .bad c ≡ false)
+        → ((v : ℕ) → OkCell ok (s v))
         → Turned S A u d s t → Turned S (λ v c. A v c ⊎ List·Memᴰ (v, c) l) u d s (rowCells u d l t)
     unfolding rowCells
     rows A [] good fine oks w v = new-map (λ c a. inl a) (λ c i. elim i [ inl a ↦ a | inr m ↦ absurd (List·Memᴰ·not-nil m) ]) (w v)

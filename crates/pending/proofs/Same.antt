@@ -117,10 +117,14 @@ module _ {K C : Type 0} (S : Setting K C) {ok : K → Type 0} (L : Laws S ok) wh
       test true e = store-sim u v (S .plus d c) n-ok M s k h e
       test false e = same
 
-      cutting : (t : Bool) → Sim (pick t M (pick (better S (S .plus d c) (M .dist v)) (store S u v (S .plus d c) M) M)) (upd s v (pick t (s v) (pick (better S (S .plus d c) (distOf (s v))) (has (S .plus d c) (some u) true) (s v)))) k
+      cutting : (t : Bool)
+          → Sim (pick t M (pick (better S (S .plus d c) (M .dist v)) (store S u v (S .plus d c) M) M))
+          (upd s v (pick t (s v) (pick (better S (S .plus d c) (distOf (s v))) (has (S .plus d c) (some u) true) (s v)))) k
       cutting true = same
       cutting false =
-          subst (λ (z : Option K). Sim (pick (better S (S .plus d c) z) (store S u v (S .plus d c) M) M) (upd s v (pick (better S (S .plus d c) (distOf (s v))) (has (S .plus d c) (some u) true) (s v))) k) (sym (h .dist v))
+          subst
+          (λ (z : Option K). Sim (pick (better S (S .plus d c) z) (store S u v (S .plus d c) M) M) (upd s v (pick (better S (S .plus d c) (distOf (s v))) (has (S .plus d c) (some u) true) (s v))) k)
+          (sym (h .dist v))
           (test (better S (S .plus d c) (distOf (s v))) refl)
 
   -- ---- a row
@@ -268,7 +272,8 @@ module _ {K C : Type 0} (S : Setting K C) {ok : K → Type 0} (L : Laws S ok) wh
           tk : Takes S s (least S b l .ix) (least S b l .at) p
           tk = takes-it M s k h b l is p here
 
-          rowed : (r : After K) → isTarget (S .target) (least S b l .ix) ≡ false → RowOut (least S b l .ix) (least S b l .at) (arcs (least S b l .ix)) (upd s (least S b l .ix) (has (least S b l .at) p false)) (suc k) r → Outcome s k (suc (length l)) r
+          rowed : (r : After K) → isTarget (S .target) (least S b l .ix) ≡ false
+              → RowOut (least S b l .ix) (least S b l .at) (arcs (least S b l .ix)) (upd s (least S b l .ix) (has (least S b l .at) p false)) (suc k) r → Outcome s k (suc (length l)) r
           rowed (goes N) f w =
               inr (
                 rowCells S (least S b l .ix) (least S b l .at) (arcs (least S b l .ix)) (upd s (least S b l .ix) (has (least S b l .at) p false)),
@@ -279,25 +284,32 @@ module _ {K C : Type 0} (S : Setting K C) {ok : K → Type 0} (L : Laws S ok) wh
                   taken = tk;
                   passed = f;
                   good = w .0;
-                  turned = row-turned S L (least S b l .ix) (least S b l .at) (q-ok M s k h b l is p here) (ArcOf arcs (least S b l .ix)) (arcs (least S b l .ix)) (upd s (least S b l .ix) (has (least S b l .at) p false)) (λ v c m. m) (λ v c m. m) (w .0) (pop-sim M s k h b l is p here .oks);
+                  turned =
+                      row-turned S L (least S b l .ix) (least S b l .at) (q-ok M s k h b l is p here) (ArcOf arcs (least S b l .ix)) (arcs (least S b l .ix))
+                      (upd s (least S b l .ix) (has (least S b l .at) p false)) (λ v c m. m) (λ v c m. m) (w .0) (pop-sim M s k h b l is p here .oks);
                 },
                 w .1,
               )
           rowed (ends e) f w = subst (λ (z : End K). Ends S (ArcOf arcs) s k z) (sym (w .4)) (wrong (least S b l .ix) (least S b l .at) p tk f (w .0) (w .1) (w .2) (w .3))
 
           aim : (t : Bool) → isTarget (S .target) (least S b l .ix) ≡ t
-              → Outcome s k (suc (length l)) (elim t as (λ x. After K) [ true ↦ ends (done (popped M s k h b l is)) | false ↦ eachArc S (least S b l .ix) (least S b l .at) (arcs (least S b l .ix)) (popped M s k h b l is) ])
-          aim true f = subst (λ (z : End K). Ends S (ArcOf arcs) s k z) (sym (done-is h (suc (M .takes)) ∙ ap (λ (z : ℕ). doneAt s (suc z)) (h .takes))) (found (least S b l .ix) (least S b l .at) p tk f)
+              → Outcome s k (suc (length l))
+              (elim t as (λ x. After K) [ true ↦ ends (done (popped M s k h b l is)) | false ↦ eachArc S (least S b l .ix) (least S b l .at) (arcs (least S b l .ix)) (popped M s k h b l is) ])
+          aim true f =
+              subst (λ (z : End K). Ends S (ArcOf arcs) s k z) (sym (done-is h (suc (M .takes)) ∙ ap (λ (z : ℕ). doneAt s (suc z)) (h .takes))) (found (least S b l .ix) (least S b l .at) p tk f)
           aim false f =
               rowed (eachArc S (least S b l .ix) (least S b l .at) (arcs (least S b l .ix)) (popped M s k h b l is)) f
-              (row-sim (least S b l .ix) (least S b l .at) (arcs (least S b l .ix)) (popped M s k h b l is) (upd s (least S b l .ix) (has (least S b l .at) p false)) (suc k) (q-ok M s k h b l is p here) (pop-sim M s k h b l is p here))
+              (row-sim (least S b l .ix) (least S b l .at) (arcs (least S b l .ix)) (popped M s k h b l is) (upd s (least S b l .ix) (has (least S b l .at) p false)) (suc k)
+              (q-ok M s k h b l is p here) (pop-sim M s k h b l is p here))
 
       -- the test for a drop, at what the cell has
       sorts : (c : Cell K) → s (least S b l .ix) ≡ c → LiveOrStale (least S b l .at) c
-          → Outcome s k (suc (length l)) (elim (above S (least S b l .at) (distOf c)) as (λ x. After K) [ true ↦ goes (dropped M s k h b l is) | false ↦ Lit.keep S arcs (least S b l) (popped M s k h b l is) ])
+          → Outcome s k (suc (length l))
+          (elim (above S (least S b l .at) (distOf c)) as (λ x. After K) [ true ↦ goes (dropped M s k h b l is) | false ↦ Lit.keep S arcs (least S b l) (popped M s k h b l is) ])
       sorts c e (live {d} {p} f) =
           let o : ok d = cell-ok ok e (h .oks (least S b l .ix)) in
-          subst (λ (t : Bool). Outcome s k (suc (length l)) (elim t as (λ x. After K) [ true ↦ goes (dropped M s k h b l is) | false ↦ Lit.keep S arcs (least S b l) (popped M s k h b l is) ])) (sym (ap (S .lt d) f ∙ self (L .order) d o))
+          subst (λ (t : Bool). Outcome s k (suc (length l)) (elim t as (λ x. After K) [ true ↦ goes (dropped M s k h b l is) | false ↦ Lit.keep S arcs (least S b l) (popped M s k h b l is) ]))
+          (sym (ap (S .lt d) f ∙ self (L .order) d o))
           (keeps p (e ∙ ap (λ (z : K). has z p true) (sym f)))
       sorts c e (stale {d} {p} {b = t} o f) =
           subst (λ (y : Bool). Outcome s k (suc (length l)) (elim y as (λ x. After K) [ true ↦ goes (dropped M s k h b l is) | false ↦ Lit.keep S arcs (least S b l) (popped M s k h b l is) ])) (sym f)
@@ -307,7 +319,9 @@ module _ {K C : Type 0} (S : Setting K C) {ok : K → Type 0} (L : Laws S ok) wh
       taking : Outcome s k (suc (length l)) (Lit.takeFrom S arcs (b ∷ l) M)
       unfolding Lit.takeFrom Lit.visit
       taking =
-          subst (λ (z : Option K). Outcome s k (suc (length l)) (elim (above S (least S b l .at) z) as (λ x. After K) [ true ↦ goes (dropped M s k h b l is) | false ↦ Lit.keep S arcs (least S b l) (popped M s k h b l is) ])) (sym (h .dist (least S b l .ix)))
+          subst (λ (z : Option K).
+          Outcome s k (suc (length l)) (elim (above S (least S b l .at) z) as (λ x. After K) [ true ↦ goes (dropped M s k h b l is) | false ↦ Lit.keep S arcs (least S b l) (popped M s k h b l is) ]))
+          (sym (h .dist (least S b l .ix)))
           (sorts (s (least S b l .ix)) refl (h .known (least S b l) (in-bag M s k h b l is (least-in S b l))))
 
     -- any turn
@@ -344,9 +358,14 @@ module _ {K C : Type 0} (S : Setting K C) {ok : K → Type 0} (L : Laws S ok) wh
 
     -- the other bag ends so: then 01's does
     pub to-literal : {s : ℕ → Cell K} {k : ℕ} {e : End K} (M : State K) → Sim M s k → Ends S (ArcOf arcs) s k e → Lit.Ends S arcs M e
-    to-literal {s} {k} M h (empty n) = through (suc (length (M .bag))) M s k (doneAt s k) (omega arith) h (λ f w. ends-one S L (ArcOf arcs) (h .oks) w (empty n)) (λ t N w i. absurd (n (w .u) (w .d) (w .p) (w .taken .held)))
-    to-literal {s} {k} M h (found u d p t g) = through (suc (length (M .bag))) M s k (doneAt s (suc k)) (omega arith) h (λ f w. ends-one S L (ArcOf arcs) (h .oks) w (found u d p t g)) (λ t' N w i. absurd (stuck S L (ArcOf arcs) (h .oks) t (w .taken) g (w .passed)))
-    to-literal {s} {k} M h (wrong u d p t g v c a b) = through (suc (length (M .bag))) M s k (refused (suc k)) (omega arith) h (λ f w. ends-one S L (ArcOf arcs) (h .oks) w (wrong u d p t g v c a b)) (λ t' N w i. absurd (bad-good S L (ArcOf arcs) (h .oks) t (w .taken) a b (w .good)))
+    to-literal {s} {k} M h (empty n) =
+        through (suc (length (M .bag))) M s k (doneAt s k) (omega arith) h (λ f w. ends-one S L (ArcOf arcs) (h .oks) w (empty n)) (λ t N w i. absurd (n (w .u) (w .d) (w .p) (w .taken .held)))
+    to-literal {s} {k} M h (found u d p t g) =
+        through (suc (length (M .bag))) M s k (doneAt s (suc k)) (omega arith) h (λ f w. ends-one S L (ArcOf arcs) (h .oks) w (found u d p t g))
+        (λ t' N w i. absurd (stuck S L (ArcOf arcs) (h .oks) t (w .taken) g (w .passed)))
+    to-literal {s} {k} M h (wrong u d p t g v c a b) =
+        through (suc (length (M .bag))) M s k (refused (suc k)) (omega arith) h (λ f w. ends-one S L (ArcOf arcs) (h .oks) w (wrong u d p t g v c a b))
+        (λ t' N w i. absurd (bad-good S L (ArcOf arcs) (h .oks) t (w .taken) a b (w .good)))
     to-literal {s} {k} {e} M h (more {t} w r) =
         through (suc (length (M .bag))) M s k e (omega arith) h (λ f w'. ends-one S L (ArcOf arcs) (h .oks) w' (more w r))
         (λ t' N w' i. to-literal N (subst (λ (z : ℕ → Cell K). Sim N z (suc k)) (next-one S L (ArcOf arcs) (h .oks) w' w) i) r)
@@ -378,7 +397,8 @@ module _ {K C : Type 0} (S : Setting K C) {ok : K → Type 0} (L : Laws S ok) wh
 
       k-go : (q : Pair K) → (q ≡ pair (S .zero) (S .source)) ⊎ List·Memᴰ q [] → LiveOrStale (q .at) (upd (λ v. out) (S .source) (has (S .zero) none true) (q .ix))
       k-go q (inr m) = absurd (List·Memᴰ·not-nil m)
-      k-go q (inl e) = subst (λ (t : Bool). LiveOrStale (q .at) (pick t (has (S .zero) none true) out)) (sym (eq-eqb (q .ix) (S .source) (ap (λ (z : Pair K). z .ix) e))) (live (ap (λ (z : Pair K). z .at) e))
+      k-go q (inl e) =
+          subst (λ (t : Bool). LiveOrStale (q .at) (pick t (has (S .zero) none true) out)) (sym (eq-eqb (q .ix) (S .source) (ap (λ (z : Pair K). z .ix) e))) (live (ap (λ (z : Pair K). z .at) e))
 
   -- the two bags end alike
   pub same-ends : (arcs : ℕ → List (ℕ × C)) (e : End K) → (Lit.Ends S arcs (Lit.start S) e → Ends S (ArcOf arcs) (begin S) 0 e) × (Ends S (ArcOf arcs) (begin S) 0 e → Lit.Ends S arcs (Lit.start S) e)

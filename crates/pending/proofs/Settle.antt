@@ -109,4 +109,5 @@ module _ {K C : Type 0} (S : Setting K C) {ok : K → Type 0} (L : Laws S ok) (p
 
         is-settled : (v : ℕ) → In v (w .u ∷ l) → (x : K) × (p : Option ℕ) × (t v ≡ has x p false)
         is-settled v (here e) = (w .d, w .p, stays-settled v (w .d) (w .p) (ap (upd s (w .u) (has (w .d) (w .p) false)) e ∙ upd-here s (w .u) (has (w .d) (w .p) false)))
-        is-settled v (there i) = let k = h .only v i in (k .0, k .1, stays-settled v (k .0) (k .1) (upd-there s (w .u) (has (w .d) (w .p) false) v (λ e. not-pending (sym (w .taken .held) ∙ ap s (sym e) ∙ k .2)) ∙ k .2))
+        is-settled v (there i) =
+            let k = h .only v i in (k .0, k .1, stays-settled v (k .0) (k .1) (upd-there s (w .u) (has (w .d) (w .p) false) v (λ e. not-pending (sym (w .taken .held) ∙ ap s (sym e) ∙ k .2)) ∙ k .2))

@@ -54,7 +54,8 @@ module _ {K C : Type 0} (S : Setting K C) {ok : K → Type 0} (L : Laws S ok) (l
     own-pop : (b : Bool) × (upd s (w .u) (has (w .d) (w .p) false) (S .source) ≡ has (S .zero) none b)
     own-pop = go (upd-cases s (w .u) (has (w .d) (w .p) false) (S .source) _ refl)
       where
-        go : ((S .source ≡ w .u) × (has (w .d) (w .p) false ≡ upd s (w .u) (has (w .d) (w .p) false) (S .source))) ⊎ ((S .source ≡ w .u → ⊥) × (s (S .source) ≡ upd s (w .u) (has (w .d) (w .p) false) (S .source)))
+        go : ((S .source ≡ w .u) × (has (w .d) (w .p) false ≡ upd s (w .u) (has (w .d) (w .p) false) (S .source))) ⊎
+            ((S .source ≡ w .u → ⊥) × (s (S .source) ≡ upd s (w .u) (has (w .d) (w .p) false) (S .source)))
             → (b : Bool) × (upd s (w .u) (has (w .d) (w .p) false) (S .source) ≡ has (S .zero) none b)
         go (inl i) =
             let k : has (S .zero) none (h .flag) ≡ has (w .d) (w .p) true = sym (h .own) ∙ ap s (i .0) ∙ w .taken .held in
@@ -70,7 +71,8 @@ module _ {K C : Type 0} (S : Setting K C) {ok : K → Type 0} (L : Laws S ok) (l
         go : NewCell S (Arc (w .u) (S .source)) (w .u) (w .d) (upd s (w .u) (has (w .d) (w .p) false) (S .source)) (t (S .source)) → (b : Bool) × (t (S .source) ≡ has (S .zero) none b)
         go (stays f e) = (own-pop .0, e ∙ own-pop .1)
         go (stores c a k b m e) =
-            absurd (clash (ap (λ (z : Cell K). better S (S .plus (w .d) c) (distOf z)) (sym (own-pop .1)) ∙ b) (low (S .plus (w .d) c) (L .plus-ok (w .d) c (cell-ok ok (w .taken .held) (oks (w .u))) (w .good (S .source) c a))))
+            absurd (clash (ap (λ (z : Cell K). better S (S .plus (w .d) c) (distOf z)) (sym (own-pop .1)) ∙ b)
+            (low (S .plus (w .d) c) (L .plus-ok (w .d) c (cell-ok ok (w .taken .held) (oks (w .u))) (w .good (S .source) c a))))
 
     -- every other index
     fed-next : (v : ℕ) → (v ≡ S .source → ⊥) → Fed (t v)

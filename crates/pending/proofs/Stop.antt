@@ -94,12 +94,16 @@ module _ {K C : Type 0} (S : Setting K C) {ok : K → Type 0} (L : Laws (aim S n
   -- at the start the source is taken
   pub first-taken : (g : Option ℕ) → Takes (aim S g) (begin (aim S g)) (S .source) (S .zero) none
   unfolding begin
-  first-taken g = record { held = upd-here (λ w. out) (S .source) (has (S .zero) none true); least = λ v e q i. go v e q (upd-cases (λ w. out) (S .source) (has (S .zero) none true) v (has e q true) i) }
+  first-taken g =
+      record { held = upd-here (λ w. out) (S .source) (has (S .zero) none true); least = λ v e q i. go v e q (upd-cases (λ w. out) (S .source) (has (S .zero) none true) v (has e q true) i) }
     where
       own : before (S .lt) (S .key (S .zero) (S .source)) (S .source) (S .key (S .zero) (S .source)) (S .source) ≡ false
-      own = is-not-before (L .order) (S .key (S .zero) (S .source)) (S .source) (S .key (S .zero) (S .source)) (S .source) (self (L .order) _ (L .key-ok (S .zero) (S .source) (L .zero-ok))) (λ e. omega arith)
+      own =
+          is-not-before (L .order) (S .key (S .zero) (S .source)) (S .source) (S .key (S .zero) (S .source)) (S .source) (self (L .order) _ (L .key-ok (S .zero) (S .source) (L .zero-ok)))
+          (λ e. omega arith)
 
-      go : (v : ℕ) (e : K) (q : Option ℕ) → ((v ≡ S .source) × (has (S .zero) none true ≡ has e q true)) ⊎ ((v ≡ S .source → ⊥) × (out ≡ has e q true)) → before (S .lt) (S .key e v) v (S .key (S .zero) (S .source)) (S .source) ≡ false
+      go : (v : ℕ) (e : K) (q : Option ℕ) → ((v ≡ S .source) × (has (S .zero) none true ≡ has e q true)) ⊎ ((v ≡ S .source → ⊥) × (out ≡ has e q true))
+          → before (S .lt) (S .key e v) v (S .key (S .zero) (S .source)) (S .source) ≡ false
       go v e q (inr i) = absurd (not-out (i .1))
       go v e q (inl i) =
           let j = i .1 in
@@ -108,8 +112,14 @@ module _ {K C : Type 0} (S : Setting K C) {ok : K → Type 0} (L : Laws (aim S n
           (subst (λ (x : K). before (S .lt) (S .key x (S .source)) (S .source) (S .key (S .zero) (S .source)) (S .source) ≡ false) (sym z) own)
 
   -- the source as the target: one take, at its own distance
-  pub stop-at-source : (e : End K) → Ends (aim S (some (S .source))) Arc (begin (aim S (some (S .source)))) 0 e → (e .number ≡ 0) × (e .takes ≡ 1) × (e .dist (S .source) ≡ some (S .zero)) × (e .pred (S .source) ≡ none)
+  pub stop-at-source : (e : End K) → Ends (aim S (some (S .source))) Arc (begin (aim S (some (S .source)))) 0 e
+      → (e .number ≡ 0) × (e .takes ≡ 1) × (e .dist (S .source) ≡ some (S .zero)) × (e .pred (S .source) ≡ none)
   stop-at-source e r =
       let t = first-taken (some (S .source)) in
-      let q : e ≡ doneAt (begin (aim S (some (S .source)))) 1 = ends-one (aim S (some (S .source))) (aim-laws (some (S .source))) Arc (begin-ok (aim S (some (S .source))) (aim-laws (some (S .source)))) r (found (S .source) (S .zero) none t (eq-eqb (S .source) (S .source) refl)) in
-      (ap (λ (x : End K). x .number) q, ap (λ (x : End K). x .takes) q, ap (λ (x : End K). x .dist (S .source)) q ∙ ap distOf (t .held), ap (λ (x : End K). x .pred (S .source)) q ∙ ap predOf (t .held))
+      let q : e ≡ doneAt (begin (aim S (some (S .source)))) 1 = ends-one (aim S (some (S .source))) (aim-laws (some (S .source))) Arc
+      (begin-ok (aim S (some (S .source))) (aim-laws (some (S .source)))) r (found (S .source) (S .zero) none t (eq-eqb (S .source) (S .source) refl)) in (
+        ap (λ (x : End K). x .number) q,
+        ap (λ (x : End K). x .takes) q,
+        ap (λ (x : End K). x .dist (S .source)) q ∙ ap distOf (t .held),
+        ap (λ (x : End K). x .pred (S .source)) q ∙ ap predOf (t .held),
+      )

@@ -19,7 +19,8 @@ module _ {K C : Type 0} (S : Setting K C) {ok : K → Type 0} (L : Laws S ok) (a
   SomeEnd M = (e : End K) × Lit.Ends S arcs M e
 
   -- past the pairs that are dropped
-  drops : (j : ℕ) (M : State K) (s : ℕ → Cell K) (n : ℕ) → length (M .bag) < j → Sim S L M s n → ((t : ℕ → Cell K) (N : State K) → Next S (ArcOf arcs) s t → Sim S L N t (suc n) → SomeEnd N) → SomeEnd M
+  drops : (j : ℕ) (M : State K) (s : ℕ → Cell K) (n : ℕ) → length (M .bag) < j → Sim S L M s n → ((t : ℕ → Cell K) (N : State K) → Next S (ArcOf arcs) s t → Sim S L N t (suc n) → SomeEnd N)
+      → SomeEnd M
   drops zero M s n o h on = absurd (omega arith)
   drops (suc j) M s n o h on = go (Lit.turn S arcs M) refl (turn-sim S L arcs M s n h) (λ N i k. drops j N s n i k on)
     where
@@ -36,7 +37,8 @@ module _ {K C : Type 0} (S : Setting K C) {ok : K → Type 0} (L : Laws S ok) (a
     inner a outer zero M s n p q i h = absurd (omega arith)
     inner a outer (suc b) M s n p q i h = drops (suc (length (M .bag))) M s n (omega arith) h (λ t N w k. go t N k (falls s t n i w) (λ o g j. inner a outer b N t (suc n) o g j k))
       where
-        go : (t : ℕ → Cell K) (N : State K) → Sim S L N t (suc n) → I t (suc n) × ((μ t (suc n) < μ s n) ⊎ ((μ t (suc n) ≤ μ s n) × (ν t (suc n) < ν s n))) → (μ t (suc n) < suc a → ν t (suc n) < b → I t (suc n) → SomeEnd N) → SomeEnd N
+        go : (t : ℕ → Cell K) (N : State K) → Sim S L N t (suc n) → I t (suc n) × ((μ t (suc n) < μ s n) ⊎ ((μ t (suc n) ≤ μ s n) × (ν t (suc n) < ν s n)))
+            → (μ t (suc n) < suc a → ν t (suc n) < b → I t (suc n) → SomeEnd N) → SomeEnd N
         go t N k (j, inl o) rec = outer N t (suc n) (omega arith) j k
         go t N k (j, inr o) rec = let x : μ t (suc n) ≤ μ s n = o .0 in let y : ν t (suc n) < ν s n = o .1 in rec (omega arith) (omega arith) j
 

@@ -111,7 +111,8 @@ module _ (key : ℤ → ℕ → ℤ) (target : Option ℕ) (o : ℕ) (Arc : ℕ 
     pub fore : (v : ℕ) (x : ℤ) (q : Option ℕ) → Has (s v) x q → Has (upd s (w .u) (has (w .d) (w .p) false) v) x q
     fore v x q i = go (upd-cases s (w .u) (has (w .d) (w .p) false) v (upd s (w .u) (has (w .d) (w .p) false) v) refl)
       where
-        go : ((v ≡ w .u) × (has (w .d) (w .p) false ≡ upd s (w .u) (has (w .d) (w .p) false) v)) ⊎ ((v ≡ w .u → ⊥) × (s v ≡ upd s (w .u) (has (w .d) (w .p) false) v)) → Has (upd s (w .u) (has (w .d) (w .p) false) v) x q
+        go : ((v ≡ w .u) × (has (w .d) (w .p) false ≡ upd s (w .u) (has (w .d) (w .p) false) v)) ⊎ ((v ≡ w .u → ⊥) × (s v ≡ upd s (w .u) (has (w .d) (w .p) false) v))
+            → Has (upd s (w .u) (has (w .d) (w .p) false) v) x q
         go (inl k) =
             let e : has x q (i .flag) ≡ has (w .d) (w .p) true = sym (i .is) ∙ ap s (k .0) ∙ w .taken .held in
             let a : w .d ≡ x = cc in
@@ -149,7 +150,8 @@ module _ (key : ℤ → ℕ → ℤ) (target : Option ℕ) (o : ℕ) (Arc : ℕ 
 
         go : New v → Relaxed t (w .d) v c
         go (stays f e) = worse (upd s (w .u) (has (w .d) (w .p) false) v) (f c a refl) e
-        go (stores c' a' k b m e) = record { up = c-up v c a; e = w .d ⊕ c'; q = some (w .u); has-it = record { flag = true; is = e }; low = omega (arith, zed, lt-no (w .d ⊕ c) (w .d ⊕ c') (m c a refl)) }
+        go (stores c' a' k b m e) =
+            record { up = c-up v c a; e = w .d ⊕ c'; q = some (w .u); has-it = record { flag = true; is = e }; low = omega (arith, zed, lt-no (w .d ⊕ c) (w .d ⊕ c') (m c a refl)) }
 
     -- and arcs looked at earlier stay so
     relaxed-still : (d : ℤ) (v : ℕ) (c : ℤ) → Relaxed s d v c → Relaxed t d v c
@@ -210,7 +212,16 @@ module _ (key : ℤ → ℕ → ℤ) (target : Option ℕ) (o : ℕ) (Arc : ℕ 
             let a : g .0 ≤ℤ k .d = g .3 in
             let b : k .d ⊕ k .c ≤ℤ k .e = k .low in
             via y n (ap predOf e ∙ has-pred fx ∙ sym (has-pred (hx .1)) ∙ r)
-            (record { d = g .0; e = k .e; c = k .c; from = has-dist (g .2); to = ap distOf e ∙ has-dist fx; arc-is = k .arc-is; up = k .up; low = omega (arith, zed, sum (k .d) (k .c), sum (g .0) (k .c)) })
+            (record {
+              d = g .0;
+              e = k .e;
+              c = k .c;
+              from = has-dist (g .2);
+              to = ap distOf e ∙ has-dist fx;
+              arc-is = k .arc-is;
+              up = k .up;
+              low = omega (arith, zed, sum (k .d) (k .c), sum (g .0) (k .c));
+            })
             rec
 
     -- ---- all of it

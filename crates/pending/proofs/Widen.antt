@@ -81,9 +81,11 @@ module _ {K C : Type 0} (S : Setting K C) {ok : K → Type 0} (L : Laws S ok) (g
         go false e = L .order .same (S .plus d c) (S .plus d c') (sum-ok c a) (sum-ok c' a') low (m c' a' e)
 
     -- both store
-    stored : {new new' : Cell K} (c c' : C) → A c → narrow (S .plus d c) ≡ false → S .plus d c ≡ S .plus d c' → new ≡ has (S .plus d c) (some u) true → new' ≡ has (S .plus d c') (some u) true → Kept new new'
+    stored : {new new' : Cell K} (c c' : C) → A c → narrow (S .plus d c) ≡ false → S .plus d c ≡ S .plus d c' → new ≡ has (S .plus d c) (some u) true → new' ≡ has (S .plus d c') (some u) true
+        → Kept new new'
     stored {new} {new'} c c' a k q e e' =
-        subst (λ (z : Cell K). Kept z new') (sym e) (subst (λ (z : Cell K). Kept (has (S .plus d c) (some u) true) z) (ap (λ (x : K). has x (some u) true) q ∙ sym e') (k-same (sum-ok c a) (firm (S .plus d c) (sum-ok c a) k)))
+        subst (λ (z : Cell K). Kept z new') (sym e)
+        (subst (λ (z : Cell K). Kept (has (S .plus d c) (some u) true) z) (ap (λ (x : K). has x (some u) true) q ∙ sym e') (k-same (sum-ok c a) (firm (S .plus d c) (sum-ok c a) k)))
 
     -- only the wide one stores
     past-new : {new new' : Cell K} (c : C) → A c → narrow (S .plus d c) ≡ true → new ≡ out → new' ≡ has (S .plus d c) (some u) true → Kept new new'
@@ -191,15 +193,19 @@ module _ {K C : Type 0} (S : Setting K C) {ok : K → Type 0} (L : Laws S ok) (g
     kept-by s k h (wrong u d p t g v c a b) z = absurd (omega arith)
     kept-by s {t} {n} {e} k h (more {t = r} w rest) z = go (case-of (h (w .u)) (w .taken .held)) (λ x j i. kept-by x j i rest z)
       where
-        go : ok (w .d) × (((s (w .u) ≡ has (w .d) (w .p) true) × Firm (w .d)) ⊎ ((narrow (w .d) ≡ true) × (s (w .u) ≡ out))) → ((x : ℕ → Cell K) (j : ℕ) → ((v : ℕ) → Kept (x v) (r v)) → NarrowEnd x j e) → NarrowEnd s k e
+        go : ok (w .d) × (((s (w .u) ≡ has (w .d) (w .p) true) × Firm (w .d)) ⊎ ((narrow (w .d) ≡ true) × (s (w .u) ≡ out)))
+            → ((x : ℕ → Cell K) (j : ℕ) → ((v : ℕ) → Kept (x v) (r v)) → NarrowEnd x j e) → NarrowEnd s k e
         go (a, inr i) rec = rec s k (λ v. alone (ArcOf arcs (w .u) v) (w .u) (w .d) a (w .good v) (i .0) (pop-wide (w .u) (w .d) (w .p) h a (i .0) (i .1) v) (w .turned v))
-        go (a, inl i) rec = let y = rec x (suc k) (λ v. both (ArcOf arcs (w .u) v) (w .u) (w .d) a (w .good v) (pop-both (w .u) (w .d) (w .p) h a (i .1) v) (turned v) (w .turned v)) in (y .0, more nx (y .1), y .2)
+        go (a, inl i) rec =
+            let y = rec x (suc k) (λ v. both (ArcOf arcs (w .u) v) (w .u) (w .d) a (w .good v) (pop-both (w .u) (w .d) (w .p) h a (i .1) v) (turned v) (w .turned v)) in (y .0, more nx (y .1), y .2)
           where
             x : ℕ → Cell K
             x = rowCells (cutBy S narrow) (w .u) (w .d) (arcs (w .u)) (upd s (w .u) (has (w .d) (w .p) false))
 
             turned : Turned (cutBy S narrow) (ArcOf arcs (w .u)) (w .u) (w .d) (upd s (w .u) (has (w .d) (w .p) false)) x
-            turned = row-turned (cutBy S narrow) (cut-laws narrow L) (w .u) (w .d) a (ArcOf arcs (w .u)) (arcs (w .u)) (upd s (w .u) (has (w .d) (w .p) false)) (λ v c m. m) (λ v c m. m) (w .good) (upd-all (OkCell ok) s (w .u) (has (w .d) (w .p) false) (λ v. kept-ok (h v)) a)
+            turned =
+                row-turned (cutBy S narrow) (cut-laws narrow L) (w .u) (w .d) a (ArcOf arcs (w .u)) (arcs (w .u)) (upd s (w .u) (has (w .d) (w .p) false)) (λ v c m. m) (λ v c m. m) (w .good)
+                (upd-all (OkCell ok) s (w .u) (has (w .d) (w .p) false) (λ v. kept-ok (h v)) a)
 
             nx : Next (cutBy S narrow) (ArcOf arcs) s x
             nx = record { u = w .u; d = w .d; p = w .p; taken = record { held = i .0; least = λ v y q j. w .taken .least v y q (kept-same (h v) j) }; passed = refl; good = w .good; turned = turned }

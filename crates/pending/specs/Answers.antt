@@ -34,12 +34,14 @@ pub record AStarAnswer (Arc : ℕ → ℕ → ℤ → Type 0) (h : ℕ → ℤ) 
   pub walk : e .number ≡ 0 → (d : ℤ) → e .dist g ≡ some d → Walk Arc o g d
   pub chain : e .number ≡ 0 → (d : ℤ) → e .dist g ≡ some d → Chain Arc o (e .dist) (e .pred) g
   -- the path's total, with the cheapest arc at each step, is never above the cost
-  pub never-above : e .number ≡ 0 → (d : ℤ) → e .dist g ≡ some d → (c : Chain Arc o (e .dist) (e .pred) g) (t : ℤ) → Cheapest Arc (passed c) t → t ≤ℤ d
+  pub never-above : e .number ≡ 0 → (d : ℤ) → e .dist g ≡ some d → (c : Chain Arc o (e .dist) (e .pred) g) (t : ℤ)
+      → Cheapest Arc (passed c) t → t ≤ℤ d
   -- 0, without a cost: no walk
   pub unreached : e .number ≡ 0 → e .dist g ≡ none → (t : ℤ) → Walk Arc o g t → ⊥
   -- with an admissible heuristic the cost is the least total, and the path's
   pub least : e .number ≡ 0 → Admissible Arc h g → (d : ℤ) → e .dist g ≡ some d → Least Arc o g d
-  pub path-total : e .number ≡ 0 → Admissible Arc h g → (d : ℤ) → e .dist g ≡ some d → (c : Chain Arc o (e .dist) (e .pred) g) (t : ℤ) → Cheapest Arc (passed c) t → t ≡ d
+  pub path-total : e .number ≡ 0 → Admissible Arc h g → (d : ℤ) → e .dist g ≡ some d → (c : Chain Arc o (e .dist) (e .pred) g) (t : ℤ)
+      → Cheapest Arc (passed c) t → t ≡ d
   -- 6: an arc below zero leaves an index in reach; blank
   pub refused-why : e .number ≡ 6 → BadInReach Arc o
   pub blank : e .number ≡ 6 → (v : ℕ) → (e .dist v ≡ none) × (e .pred v ≡ none)

@@ -1,4 +1,5 @@
--- For contracts inside an engine: the content of its bag, a key or none per index, beside the cells of the search; and how far the search has come.
+-- For contracts inside an engine: the content of its bag, a key or none per index,
+-- beside the cells of the search; and how far the search has come.
 use mathlib.Core.Path.{_≡_}
 use mathlib.Core.Bool.{Bool, true}
 use mathlib.Core.Option.{Option, none, some}

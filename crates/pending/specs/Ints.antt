@@ -9,7 +9,16 @@ use Rattle.pending.specs.Setting.{Setting}
 
 -- a search over whole numbers by any rule for the key, with or without a target
 abbrev pub whole : (ℤ → ℕ → ℤ) → Option ℕ → ℕ → Setting ℤ ℤ
-whole key target s = record { lt = ltZ; zero = pos 0; plus = λ d c. d ⊕ c; key = key; bad = λ c. ltZ c (pos 0); cut = λ k. false; target = target; source = s }
+whole key target s = record {
+  lt = ltZ;
+  zero = pos 0;
+  plus = λ d c. d ⊕ c;
+  key = key;
+  bad = λ c. ltZ c (pos 0);
+  cut = λ k. false;
+  target = target;
+  source = s;
+}
 
 -- `dijkstra` from a source
 abbrev pub dijkstra : ℕ → Setting ℤ ℤ

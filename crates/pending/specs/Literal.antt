@@ -31,7 +31,12 @@ done s = record { number = 0; dist = s .dist; pred = s .pred; takes = s .takes }
 module _ {K C : Type 0} (S : Setting K C) where
   -- "Start: source with distance 0 and key 0 (A*: 0 plus its heuristic)."
   unfoldable pub start : State K
-  start = record { dist = upd (λ v. none) (S .source) (some (S .zero)); pred = λ v. none; bag = record { at = S .zero; ix = S .source } ∷ []; takes = 0 }
+  start = record {
+    dist = upd (λ v. none) (S .source) (some (S .zero));
+    pred = λ v. none;
+    bag = record { at = S .zero; ix = S .source } ∷ [];
+    takes = 0;
+  }
 
   -- "the least pair, smaller index first on equal keys"
   abbrev pub first : Pair K → Pair K → Bool
@@ -59,7 +64,12 @@ module _ {K C : Type 0} (S : Setting K C) where
 
   -- "store it, store the predecessor, add the pair"
   abbrev pub store : ℕ → ℕ → K → State K → State K
-  store u v n s = record { dist = upd (s .dist) v (some n); pred = upd (s .pred) v (some u); bag = record { at = n; ix = v } ∷ s .bag; takes = s .takes }
+  store u v n s = record {
+    dist = upd (s .dist) v (some n);
+    pred = upd (s .pred) v (some u);
+    bag = record { at = n; ix = v } ∷ s .bag;
+    takes = s .takes;
+  }
 
   -- "next = distance + cost; if v has no distance or next is strictly smaller, .."; a total past the cutoff is passed over
   unfoldable pub look : ℕ → K → ℕ → C → State K → State K
@@ -77,7 +87,10 @@ module _ {K C : Type 0} (S : Setting K C) where
 
     -- "Drop it if the distance in its key is above the index's present one. Otherwise, .."
     unfoldable pub visit : Pair K → State K → After K
-    visit p s = elim (above (p .at) (s .dist (p .ix))) [ true ↦ goes s | false ↦ keep p (record { dist = s .dist; pred = s .pred; bag = s .bag; takes = suc (s .takes) }) ]
+    visit p s = elim (above (p .at) (s .dist (p .ix))) [
+      | true ↦ goes s
+      | false ↦ keep p (record { dist = s .dist; pred = s .pred; bag = s .bag; takes = suc (s .takes) })
+    ]
 
     -- "take the least pair"; "Stop when empty"
     unfoldable pub takeFrom : List (Pair K) → State K → After K

@@ -1,4 +1,5 @@
--- The pending bag with one place per index, as the bag over lent memory keeps it. A turn is said without an order of arcs: the arcs are a relation.
+-- The pending bag with one place per index, as the bag over lent memory keeps it.
+-- A turn is said without an order of arcs: the arcs are a relation.
 use mathlib.Core.Path.{_≡_}
 use mathlib.Core.Bool.{Bool, true, false}
 use mathlib.Core.Option.{Option, none, some}
@@ -62,7 +63,8 @@ module _ {K C : Type 0} (S : Setting K C) where
     -- the search from s, after n kept takes, ends in e
     pub data Ends : (ℕ → Cell K) → ℕ → End K → Type 0 where
       empty : {s : ℕ → Cell K} {n : ℕ} → ((v : ℕ) (d : K) (p : Option ℕ) → s v ≡ has d p true → ⊥) → Ends s n (doneAt s n)
-      found : {s : ℕ → Cell K} {n : ℕ} (u : ℕ) (d : K) (p : Option ℕ) → Takes s u d p → isTarget (S .target) u ≡ true → Ends s n (doneAt s (suc n))
+      found : {s : ℕ → Cell K} {n : ℕ} (u : ℕ) (d : K) (p : Option ℕ) → Takes s u d p → isTarget (S .target) u ≡ true
+          → Ends s n (doneAt s (suc n))
       wrong : {s : ℕ → Cell K} {n : ℕ} (u : ℕ) (d : K) (p : Option ℕ) → Takes s u d p → isTarget (S .target) u ≡ false
           → (v : ℕ) (c : C) → Arc u v c → S .bad c ≡ true → Ends s n (refused (suc n))
       more : {s t : ℕ → Cell K} {n : ℕ} {e : End K} → Next s t → Ends t (suc n) e → Ends s n e

@@ -6,23 +6,27 @@
 use mathlib.Core.Path.{_≡_}
 use mathlib.Core.Bool.{true}
 use mathlib.Core.List.{List}
+use mathlib.Core.Logic.{inl, inr}
 use Prim.Native.Nat.{ℕ}
 use native.Mathlib.Omega.{arith}
 use borrow.Author.Tests.{le-leb}
 use lib.IntN.{ℤ, pos}
 use lib.ListN.{length}
-use Rattle.whole.proofs.Cases.{clash, other}
+use Rattle.whole.proofs.Cases.{clash}
+use Rattle.numbers.specs.Numbers.{Given}
 use Rattle.net.specs.Net.{Net, insideNet, has}
 use Rattle.matrix.proofs.Settles.{engines-agree}
 use Rattle.floyd_warshall.specs.Promise as floyd
 use Rattle.johnson.specs.Promise as johnson
 use Rattle.bellman_ford.specs.Promise as bellman
 use Rattle.bellman_ford.proofs.Refusals.{enough-passed}
+use Rattle.bellman_ford.proofs.Settles.{promise-given, no-negative}
 use Rattle.page.specs.Promise as page
 use Rattle.page.proofs.Totals.{totals-yes}
 
 -- ---- the two questions on all pairs, with the same matrix lent
-pub matrices-agree : {g : Net ℤ} {m m₁ m₂ : List ℤ} {r r′ : List ℕ} {s s′ : johnson.Scratch} {no no′ : ℕ} → floyd.Promise g m r m₁ r′ no → johnson.Promise g m s m₂ s′ no′ → (no ≡ 1 → ⊥) → (no′ ≡ 1 → ⊥) → (no ≡ no′) × (m₁ ≡ m₂)
+pub matrices-agree : {g : Net ℤ} {m m₁ m₂ : List ℤ} {r r′ : List ℕ} {s s′ : johnson.Scratch} {number number′ : ℕ} → floyd.Promise g m r m₁ r′ number → johnson.Promise g m s m₂ s′ number′
+    → (number ≡ 1 → ⊥) → (number′ ≡ 1 → ⊥) → (number ≡ number′) × (m₁ ≡ m₂)
 matrices-agree p q f f′ = engines-agree p q f f′
 
 -- ---- the page check of `bellman_ford`'s distances
@@ -32,9 +36,10 @@ paged g b e p i q =
     let k = enough-passed g b p i in
     rw (k .whole, le-leb (g .bound) (length (e .dist)) (omega (arith, k .dist, q)))
 
-pub bellman-ford-page-yes : {g : Net ℤ} {s : ℕ} {b e : bellman.Buffers} {no : ℕ} {a : page.Answer} → has g s ≡ true → bellman.Promise g s b e no → no ≡ 0 → page.Promise g s (e .dist) a → a ≡ page.answerOf 0 true
-bellman-ford-page-yes source (bellman.short n p q) z r = other 1 0 n z (λ y. omega arith)
-bellman-ford-page-yes source (bellman.outside n p i q) z r = other 2 0 n z (λ y. omega arith)
-bellman-ford-page-yes source (bellman.unknown n p i h q) z r = absurd (clash source h)
-bellman-ford-page-yes source (bellman.negative n p i h w q) z r = other 7 0 n z (λ y. omega arith)
-bellman-ford-page-yes {g} {s} {b} {e} source (bellman.done n p i h w d q) z r = totals-yes g s (e .dist) (paged g b e p i (d .long)) i h w (λ v k. d .each v (pos 0) k) r
+pub bellman-ford-page-yes : {g : Net ℤ} {s : ℕ} {b e : bellman.Buffers} {number : ℕ} {a : page.Answer} → has g s ≡ true → bellman.Promise g s b e number → number ≡ 0 → page.Promise g s (e .dist) a
+    → a ≡ page.answerOf 0 true
+bellman-ford-page-yes {g} {s} {b} {e} {a = a} source p z r = go (promise-given p 0 z)
+  where
+    go : Given 0 (bellman.table g s b) e → a ≡ page.answerOf 0 true
+    go (l, (i, inl x)) = absurd (clash source (x .0))
+    go (l, (i, inr (h, (w, (t, x))))) = totals-yes g s (e .dist) (paged g b e l i (x .0 .long)) i h (no-negative w) (λ v k. x .0 .each v (pos 0) k) r

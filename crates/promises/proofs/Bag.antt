@@ -13,11 +13,13 @@ use mathlib.Core.Option.{none}
 use Prim.Native.Nat.{ℕ}
 use native.Mathlib.Omega.{arith}
 use lib.IntN.{ℤ}
-use Rattle.whole.proofs.Cases.{clash, other}
+use Rattle.whole.proofs.Cases.{other}
+use Rattle.numbers.specs.Numbers as rows
+use Rattle.numbers.proofs.Numbers.{_then_, behind, follows-behind}
 use Rattle.float.specs.Cutoff.{past}
 use Rattle.float.specs.declared.Cutoff.{Cutoff}
 use Rattle.table.specs.Lent.{FloatCost}
-use Rattle.net.specs.Net.{Net, linksOf, ArcOf, OpenArcOf, insideNet, has, sizeOf}
+use Rattle.net.specs.Net.{Net, linksOf, ArcOf, OpenArcOf, insideNet, has, mostArcsOf}
 use Rattle.rows.specs.Rows.{openLinks, rowsOf, openRows}
 use Rattle.rows.proofs.Maps.{open-arcs}
 use Rattle.rows.proofs.Members.{arcs-rows}
@@ -30,17 +32,13 @@ use Rattle.pending.proofs.Floats.{laws64}
 use Rattle.pending.proofs.Same.{literal-ends}
 use Rattle.a_star.specs.Promise as star
 use Rattle.a_star.proofs.Literal.{literal-exactly}
+use Rattle.a_star.proofs.Settles.{outcome-of}
 use Rattle.dijkstra_path.specs.Promise as search
 
 -- ---- `a_star`
 pub a-star-bag : {g : Net ℤ} {q : star.Question} {b e : star.Buffers} {r : star.Answer} → star.Promise g q b e r → star.Fine g q b →
-    (x : End ℤ) × (l : List ℕ) × Lit.Ends (star.searchOf q) (rowsOf g) (Lit.start (star.searchOf q)) x × star.Says (ArcOf g) q x r l × (e ≡ star.left (g .bound) (sizeOf g) b l)
-a-star-bag (star.short p n f) w = absurd (clash (w .enough) n)
-a-star-bag (star.outside p n i f) w = absurd (clash (w .inside) i)
-a-star-bag (star.noSource p n i s f) w = absurd (clash (w .source) s)
-a-star-bag (star.noTarget p n i s t f) w = absurd (clash (w .target) t)
-a-star-bag (star.farGuess p n i s t h f) w = absurd (clash (w .fair) h)
-a-star-bag {g} {q} (star.ran v o) w = (o .end, o .path, literal-exactly g q (o .end) .0 (o .ends), o .says, o .leaves)
+    (x : End ℤ) × (l : List ℕ) × Lit.Ends (star.searchOf q) (rowsOf g) (Lit.start (star.searchOf q)) x × star.Says (ArcOf g) q x r l × (e ≡ star.left (g .bound) (mostArcsOf g) b l)
+a-star-bag {g} {q} p w = let o = outcome-of p w in (o .end, o .path, literal-exactly g q (o .end) .0 (o .ends), o .says, o .leaves)
 
 -- ---- `dijkstra_path_impl`, `dijkstra_path_f64`
 pub dijkstra-path-literal : (g : Net FloatCost) (s : ℕ) (k : Cutoff) (x : End ℕ) → search.EndsIn g s k x ↔ Lit.Ends (search64 (past k) none s) (openRows g) (Lit.start (search64 (past k) none s)) x
@@ -55,10 +53,13 @@ dijkstra-path-literal g s k x = (λ r. same .0 (r .run), λ r. record { run = sa
     same : Ends (search64 (past k) none s) (OpenArcOf g) (begin (search64 (past k) none s)) 0 x ↔ Lit.Ends (search64 (past k) none s) (openRows g) (Lit.start (search64 (past k) none s)) x
     same = literal-ends (search64 (past k) none s) (laws64 (past k) none s) (OpenArcOf g) (openRows g) open-rows x
 
-pub dijkstra-path-bag : {g : Net FloatCost} {s : ℕ} {k : Cutoff} {b e : search.Buffers} {no : ℕ} → search.Promise g s k b e no → search.enough g b ≡ true → insideNet g ≡ true → has g s ≡ true →
-    (x : End ℕ) × Lit.Ends (search64 (past k) none s) (openRows g) (Lit.start (search64 (past k) none s)) x × (no ≡ x .number) × (no ≡ 0 → search.Answers (g .bound) x b e)
-dijkstra-path-bag (search.short n p q) l i h = absurd (clash l p)
-dijkstra-path-bag (search.outside n p j q) l i h = absurd (clash i j)
-dijkstra-path-bag (search.absent n p j w q) l i h = absurd (clash h w)
-dijkstra-path-bag {g} {s} {k} (search.bad n p j w x r z q) l i h = (x, dijkstra-path-literal g s k x .0 r, n ∙ sym z, λ y. other 6 0 n y (λ c. omega arith))
-dijkstra-path-bag {g} {s} {k} (search.done n p j w x r z a q) l i h = (x, dijkstra-path-literal g s k x .0 r, n ∙ sym z, λ y. a)
+pub dijkstra-path-bag : {g : Net FloatCost} {s : ℕ} {k : Cutoff} {b e : search.Buffers} {number : ℕ} → search.Promise g s k b e number → search.enough g b ≡ true → insideNet g ≡ true → has g s ≡ true
+    →
+    (x : End ℕ) × Lit.Ends (search64 (past k) none s) (openRows g) (Lit.start (search64 (past k) none s)) x × (number ≡ x .number) × (number ≡ 0 → search.Answers (g .bound) x b e)
+dijkstra-path-bag {g} {s} {k} {b} {e} {number} p l i h = go (follows-behind 3 (search.table g s k b) e number (l then i then h then tt) (p .follows))
+  where
+    go : rows.Follows (behind 3 (search.table g s k b)) e number →
+        (x : End ℕ) × Lit.Ends (search64 (past k) none s) (openRows g) (Lit.start (search64 (past k) none s)) x × (number ≡ x .number) × (number ≡ 0 → search.Answers (g .bound) x b e)
+    go (rows.here x y) = (x .0, dijkstra-path-literal g s k (x .0) .0 (x .1), y .0 ∙ sym (x .2), λ n. other 6 0 (y .0) n (λ c. omega arith))
+    go (rows.past w (rows.here t y)) = let (x, r, z, a, q) = y .1 in (x, dijkstra-path-literal g s k x .0 r, y .0 ∙ sym z, λ n. a)
+    go (rows.past w (rows.past t y)) = absurd y

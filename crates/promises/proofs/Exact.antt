@@ -9,21 +9,25 @@ use mathlib.Core.Bool.{Bool, true, false}
 use mathlib.Core.Logic.{inl, inr, ⊎-elim}
 use mathlib.Core.Option.{Option, none, some}
 use mathlib.Core.List.{List, [], _∷_, map}
-use Prim.Native.Nat.{ℕ, _+_, _≤_, _<_, _^_}
+use Prim.Native.Nat.{ℕ, _≤_, _<_, _^_}
 use native.Mathlib.Omega.{arith}
 use lib.IntN.{ℤ, pos}
 use lib.Signed.{_<ℤ_}
 use lib.ListN.{getD}
 use lib.Ieee.{nan, inf}
 use Rattle.whole.specs.Zed.{zed}
-use Rattle.whole.proofs.Cases.{clash, other}
+use Rattle.whole.proofs.Cases.{agree}
+use Rattle.numbers.specs.Numbers.{Follows, here, past}
+use Rattle.numbers.proofs.Numbers.{behind, itself}
+use Rattle.numbers.proofs.Beside.{beside, alike}
+use Rattle.clean.specs.Fill.{Settled}
 use Rattle.clean.specs.None.{noneI64, noneF64, shown}
 use Rattle.float.specs.declared.Cutoff.the-variants.{None, At}
 use Rattle.table.specs.Links.{Link, Arc}
 use Rattle.table.specs.Lent.{FloatCost, floatCost}
 use Rattle.walks.specs.Walk.{Entry}
 use Rattle.walks.proofs.Over.{total-of}
-use Rattle.net.specs.Net.{Net, linksOf, ArcOf, OpenArcOf}
+use Rattle.net.specs.Net.{Net, linksOf, ArcOf, OpenArcOf, insideNet}
 use Rattle.pending.specs.Reach.{BadInReach}
 use Rattle.pending.proofs.Exact.{WholeCost}
 use Rattle.dijkstra.specs.Promise as dijkstra
@@ -57,7 +61,13 @@ module _ {g : Net ℤ} {h : Net FloatCost} (k : Converted g h) where
 
   -- the same ends, so both are refused with 2 or neither is
   same-ends : SameEnds g h
-  same-ends = record { bound = k .bound; count = k .count; directed = k .directed; has = k .has; leads = λ u v. (λ a. (floatCost (pattern (a .0)) true, arc-to u v (a .0) (a .1)), λ a. let b = arc-from u v (a .0) (a .1) in (b .0, b .1)) }
+  same-ends = record {
+    bound = k .bound;
+    count = k .count;
+    directed = k .directed;
+    has = k .has;
+    leads = λ u v. (λ a. (floatCost (pattern (a .0)) true, arc-to u v (a .0) (a .1)), λ a. let b = arc-from u v (a .0) (a .1) in (b .0, b .1));
+  }
 
   -- no arc is below zero
   none-bad : {s : ℕ} → BadInReach (ArcOf g) s → ⊥
@@ -91,35 +101,39 @@ same-number {d} (some z) e q t =
     both n (⊎-elim (λ l. omega (arith, zed, l .1)) (λ p. absurd (let a : d ≡ noneI64 = p .0 in omega (arith, zed))) t) i (q .2)
 
 -- ---- the exact case
-module _ {g : Net ℤ} {h : Net FloatCost} {s : ℕ} {b e : dijkstra.Buffers} {b′ e′ : search.Buffers} {no no′ : ℕ} (k : Converted g h) where
-  pub exact-case : dijkstra.Promise g s b e no → search.Promise h s None b′ e′ no′ → (no ≡ 1 → ⊥) → (no′ ≡ 1 → ⊥) → Agrees (g .bound) (e .dist) (e′ .dist) no no′
-  exact-case (dijkstra.short n p q) r f f′ = absurd (f n)
-  exact-case (dijkstra.outside n p i q) (search.short n′ p′ q′) f f′ = absurd (f′ n′)
-  exact-case (dijkstra.outside n p i q) (search.outside n′ p′ i′ q′) f f′ = record { number = n ∙ sym n′; distances = λ z. other 2 0 n z (λ y. omega arith) }
-  exact-case (dijkstra.outside n p i q) (search.absent n′ p′ i′ h′ q′) f f′ = absurd (clash (inside-over (ends-back (same-ends k)) i′) i)
-  exact-case (dijkstra.outside n p i q) (search.bad n′ p′ i′ h′ x′ r′ z′ q′) f f′ = absurd (clash (inside-over (ends-back (same-ends k)) i′) i)
-  exact-case (dijkstra.outside n p i q) (search.done n′ p′ i′ h′ x′ r′ z′ a′ q′) f f′ = absurd (clash (inside-over (ends-back (same-ends k)) i′) i)
-  exact-case (dijkstra.unknown n p i w q) (search.short n′ p′ q′) f f′ = absurd (f′ n′)
-  exact-case (dijkstra.unknown n p i w q) (search.outside n′ p′ i′ q′) f f′ = absurd (clash (inside-over (same-ends k) i) i′)
-  exact-case (dijkstra.unknown n p i w q) (search.absent n′ p′ i′ h′ q′) f f′ = record { number = n ∙ sym n′; distances = λ z. other 3 0 n z (λ y. omega arith) }
-  exact-case (dijkstra.unknown n p i w q) (search.bad n′ p′ i′ h′ x′ r′ z′ q′) f f′ = absurd (clash (k .has s ∙ h′) w)
-  exact-case (dijkstra.unknown n p i w q) (search.done n′ p′ i′ h′ x′ r′ z′ a′ q′) f f′ = absurd (clash (k .has s ∙ h′) w)
-  exact-case (dijkstra.bad n p i w x q) r f f′ = absurd (none-bad k x)
-  exact-case (dijkstra.done n p i w x d q) (search.short n′ p′ q′) f f′ = absurd (f′ n′)
-  exact-case (dijkstra.done n p i w x d q) (search.outside n′ p′ i′ q′) f f′ = absurd (clash (inside-over (same-ends k) i) i′)
-  exact-case (dijkstra.done n p i w x d q) (search.absent n′ p′ i′ h′ q′) f f′ = absurd (clash w (k .has s ∙ h′))
-  exact-case (dijkstra.done n p i w x d q) (search.bad n′ p′ i′ h′ x′ r′ z′ q′) f f′ = absurd (search-exact.exact-good (ArcOf g) (to k) (from k) (search.bad n′ p′ i′ h′ x′ r′ z′ q′) n′)
-  exact-case (dijkstra.done n p i w x d q) (search.done n′ p′ i′ h′ x′ r′ z′ a′ q′) f f′ = record { number = n ∙ sym n′; distances = each }
+module _ {g : Net ℤ} {h : Net FloatCost} {s : ℕ} {b e : dijkstra.Buffers} {b′ e′ : search.Buffers} {number number′ : ℕ} (k : Converted g h) where
+  pub exact-case : dijkstra.Promise g s b e number → search.Promise h s None b′ e′ number′ → (number ≡ 1 → ⊥) → (number′ ≡ 1 → ⊥) → Agrees (g .bound) (e .dist) (e′ .dist) number number′
+  exact-case p r f f′ = let n = both (p .follows) (r .follows) in record { number = n .0; distances = λ z v m. each (sym (n .0) ∙ z) (n .1 z .each v (pos 0) m) m }
     where
-      each : no ≡ 0 → (v : ℕ) → v < g .bound → SameNumber (getD (e .dist) v (pos 0)) (getD (e′ .dist) v noneF64)
-      each z v m =
-          let t = d .each v (pos 0) m in
-          let y = search-exact.exact-entry g (to k) (from k) (search.done n′ p′ i′ h′ x′ r′ z′ a′ q′) n′ v (subst (λ (j : ℕ). v < j) (k .bound) m) (total-of t) in
+      inside : insideNet g ≡ insideNet h
+      inside = agree (insideNet g) (insideNet h) (inside-over (same-ends k)) (inside-over (ends-back (same-ends k)))
+
+      -- after 0 the distances are those of a promise of `dijkstra`
+      Found : ℕ → dijkstra.Buffers → search.Buffers → Type 0
+      Found n x y = n ≡ 0 → Settled (g .bound) (Entry (ArcOf g) s) (b .dist) (x .dist)
+
+      -- past 1 the two tables have the same conditions: neither gives 6
+      both : Follows (dijkstra.table g s b) e number → Follows (search.table h s None b′) e′ number′ → (number ≡ number′) × Found number e e′
+      both (here l x) y = absurd (f (x .0))
+      both (past l x) (here l′ y) = absurd (f′ (y .0))
+      both (past l x) (past l′ y) =
+          beside Found (behind 1 (dijkstra.table g s b)) (behind 1 (search.table h s None b′)) e e′ number number′
+          (alike refl inside (λ x y p q z. absurd (let c : _≡_ {A = ℕ} 2 0 = z in omega (arith, c)))
+          (λ i i′. alike refl (k .has s) (λ x y p q z. absurd (let c : _≡_ {A = ℕ} 3 0 = z in omega (arith, c)))
+          (λ a a′. alike refl (λ w. absurd (none-bad k w), λ z. absurd (search-exact.exact-good (ArcOf g) (to k) (from k) (z .1) (z .2)))
+          (λ x y p q z. absurd (let c : _≡_ {A = ℕ} 6 0 = z in omega (arith, c)))
+          (λ w w′. alike refl itself (λ x y p q z. p .0) (λ t t′. tt)))))
+          x y
+
+      each : {v : ℕ} → number′ ≡ 0 → Entry (ArcOf g) s v (getD (e .dist) v (pos 0)) → v < g .bound → SameNumber (getD (e .dist) v (pos 0)) (getD (e′ .dist) v noneF64)
+      each {v} z t m =
+          let y = search-exact.exact-entry g (to k) (from k) r z v (subst (λ (j : ℕ). v < j) (k .bound) m) (total-of t) in
           same-number (y .0) (y .1) (y .2) t
 
   -- a cutoff that is NaN or +infinity cuts nothing
-  pub exact-nan : dijkstra.Promise g s b e no → search.Promise h s (At nan) b′ e′ no′ → (no ≡ 1 → ⊥) → (no′ ≡ 1 → ⊥) → Agrees (g .bound) (e .dist) (e′ .dist) no no′
+  pub exact-nan : dijkstra.Promise g s b e number → search.Promise h s (At nan) b′ e′ number′ → (number ≡ 1 → ⊥) → (number′ ≡ 1 → ⊥) → Agrees (g .bound) (e .dist) (e′ .dist) number number′
   exact-nan p r f f′ = exact-case p (cutoff-nan .0 r) f f′
 
-  pub exact-infinity : dijkstra.Promise g s b e no → search.Promise h s (At (inf false)) b′ e′ no′ → (no ≡ 1 → ⊥) → (no′ ≡ 1 → ⊥) → Agrees (g .bound) (e .dist) (e′ .dist) no no′
+  pub exact-infinity : dijkstra.Promise g s b e number → search.Promise h s (At (inf false)) b′ e′ number′ → (number ≡ 1 → ⊥) → (number′ ≡ 1 → ⊥)
+      → Agrees (g .bound) (e .dist) (e′ .dist) number number′
   exact-infinity p r f f′ = exact-case p (cutoff-infinity .0 r) f f′

@@ -5,6 +5,8 @@ pub mod Demand3
 pub mod Agree
 pub mod Scratch
 pub mod Exact
-pub mod Helpers
 pub mod Bag
 pub mod Premises
+pub mod SmallWalks
+pub mod SmallGives
+pub mod Small

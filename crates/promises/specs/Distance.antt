@@ -15,7 +15,8 @@ pub record Distance (Arc : ℕ → ℕ → ℤ → Type 0) (s v : ℕ) (d : ℤ)
   pub lowest : (t : ℤ) → Walk Arc s v t → d ≤ℤ t
   pub none-exactly : (d ≡ noneI64) ↔ ((t : ℤ) → Walk Arc s v t → ⊥)
 
--- d is the number of hops from s to v: a number given is that of the arcs of a walk, no walk has fewer, and it is none exactly without a walk
+-- d is the number of hops from s to v: a number given is that of the arcs of a walk,
+-- no walk has fewer, and it is none exactly without a walk
 pub record Hops (Leads : ℕ → ℕ → Type 0) (s v d : ℕ) : Type 0 where
   pub attained : (d ≡ noneU32 → ⊥) → Steps Leads s v d
   pub lowest : (n : ℕ) → Steps Leads s v n → d ≤ n

@@ -41,6 +41,6 @@ pub data SameNumber (d : ℤ) (x : ℕ) : Type 0 where
   both : (n : ℕ) → n ≤ 2 ^ 53 → d ≡ pos n → x ≡ pattern (pos n) → SameNumber d x
 
 -- answers that agree: the number, and after 0 each of the first m distances
-pub record Agrees (m : ℕ) (dist : List ℤ) (dist64 : List ℕ) (no no′ : ℕ) : Type 0 where
-  pub number : no ≡ no′
-  pub distances : no ≡ 0 → (v : ℕ) → v < m → SameNumber (getD dist v (pos 0)) (getD dist64 v noneF64)
+pub record Agrees (m : ℕ) (dist : List ℤ) (dist64 : List ℕ) (n n′ : ℕ) : Type 0 where
+  pub number : n ≡ n′
+  pub distances : n ≡ 0 → (v : ℕ) → v < m → SameNumber (getD dist v (pos 0)) (getD dist64 v noneF64)

@@ -2,4 +2,4 @@ pub mod Maps
 pub mod Used
 pub mod Distance
 pub mod Exact
-pub mod Demand1
+pub mod Small

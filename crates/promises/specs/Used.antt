@@ -16,11 +16,11 @@ use Rattle.johnson.specs.Promise as johnson
 use Rattle.hops.specs.Promise as hops
 use Rattle.dijkstra_path.specs.Promise as search
 
--- what two calls that gave the number `no` leave of the buffers b and b′ that they were lent: after 0, 6 and 7 the same used parts,
+-- what two calls that gave the `number` leave of the buffers b and b′ that they were lent: after 0, 6 and 7 the same used parts,
 -- after 1 to 5 each its own buffers as lent
-pub data LeaveSame {B U : Type 0} (used : B → U) (no : ℕ) (b b′ e e′ : B) : Type 0 where
-  ran : (no ≡ 0) ⊎ ((no ≡ 6) ⊎ (no ≡ 7)) → used e ≡ used e′ → LeaveSame used no b b′ e e′
-  refused : 1 ≤ no → no ≤ 5 → e ≡ b → e′ ≡ b′ → LeaveSame used no b b′ e e′
+pub data LeaveSame {B U : Type 0} (used : B → U) (number : ℕ) (b b′ e e′ : B) : Type 0 where
+  ran : (number ≡ 0) ⊎ ((number ≡ 6) ⊎ (number ≡ 7)) → used e ≡ used e′ → LeaveSame used number b b′ e e′
+  refused : 1 ≤ number → number ≤ 5 → e ≡ b → e′ ≡ b′ → LeaveSame used number b b′ e e′
 
 -- of a map with bound m, room for a arcs and p nodes
 module _ (m a : ℕ) where
@@ -36,7 +36,7 @@ module _ (m a : ℕ) where
   abbrev pub dijkstraPathUsed : search.Buffers → search.Buffers
   dijkstraPathUsed b =
       search.buffersOf (take m (b .dist)) (take m (b .preds)) (take (m + 1) (b .offsets)) (take a (b .heads)) (take a (b .weights))
-      (take m (b .heap)) (take m (b .places)) (take m (b .keys))
+      (take m (b .peaks)) (take m (b .words)) (take m (b .keys))
 
   -- m distances, and m of the ring, its marks and the path lengths
   abbrev pub bellmanUsed : bellman.Buffers → List ℤ × Lists ℤ × List ℕ × List ℕ × List ℕ

@@ -1,9 +1,9 @@
 // The questions of f64 maps on a case of the list, with room for 8 indices and 16 links: no case has more.
 use crate::ints;
 use crate::maps;
+use crate::reads;
 use crate::same;
 use crate::same::Seen;
-use crate::words;
 use float::Cutoff;
 use table::Map;
 
@@ -41,7 +41,7 @@ fn odd_limit_of(bits: u64, next: usize) -> Limit {
     }
     Limit {
         cutoff: Cutoff::None,
-        next: words::LOST,
+        next: reads::LOST,
     }
 }
 
@@ -58,14 +58,14 @@ fn limit_of(bits: u64, next: usize) -> Limit {
 
 // The cutoff of a case: 0 and 0 for none, else 1 and the bits.
 fn read_cutoff(list: &[u8], at: usize) -> Limit {
-    let capped = words::whole(list, at, 1);
+    let capped = reads::whole(list, at, 1);
     if capped.size == 0 {
         return Limit {
             cutoff: Cutoff::None,
-            next: words::whole(list, capped.next, 0).next,
+            next: reads::whole(list, capped.next, 0).next,
         };
     }
-    let bits = words::bits(list, capped.next);
+    let bits = reads::bits(list, capped.next);
     limit_of(bits.size, bits.next)
 }
 
@@ -101,7 +101,7 @@ fn path_impl(
     list: &[u8],
     at: usize,
 ) -> Seen {
-    let source = words::index(list, at);
+    let source = reads::index(list, at);
     let limit = read_cutoff(list, source.next);
     let cutoff = limit.cutoff;
     let mut dist = [0u64; 8];
@@ -109,8 +109,8 @@ fn path_impl(
     let mut offsets = [0usize; 9];
     let mut heads = [0u16; 32];
     let mut weights = [0u64; 32];
-    let mut heap = [0usize; 8];
-    let mut places = [0usize; 8];
+    let mut peaks = [0usize; 8];
+    let mut words = [0usize; 8];
     let mut keys = [0u64; 8];
     let number = dijkstra_path::dijkstra_path_impl(
         map,
@@ -126,8 +126,8 @@ fn path_impl(
         &mut offsets,
         &mut heads,
         &mut weights,
-        &mut heap,
-        &mut places,
+        &mut peaks,
+        &mut words,
         &mut keys,
     );
     see_search(number, &dist, &preds, map.bound, list, limit.next)
@@ -144,7 +144,7 @@ fn path_f64(
     list: &[u8],
     at: usize,
 ) -> Seen {
-    let source = words::index(list, at);
+    let source = reads::index(list, at);
     let limit = read_cutoff(list, source.next);
     let cutoff = limit.cutoff;
     let mut dist = [0u64; 8];
@@ -152,8 +152,8 @@ fn path_f64(
     let mut offsets = [0usize; 9];
     let mut heads = [0u16; 32];
     let mut weights = [0u64; 32];
-    let mut heap = [0usize; 8];
-    let mut places = [0usize; 8];
+    let mut peaks = [0usize; 8];
+    let mut words = [0usize; 8];
     let mut keys = [0u64; 8];
     let number = dijkstra_path::dijkstra_path_f64(
         map,
@@ -169,8 +169,8 @@ fn path_f64(
         &mut offsets,
         &mut heads,
         &mut weights,
-        &mut heap,
-        &mut places,
+        &mut peaks,
+        &mut words,
         &mut keys,
     );
     see_search(number, &dist, &preds, map.bound, list, limit.next)

@@ -1,8 +1,8 @@
 // The questions of integer maps on a case of the list, with room for 8 indices and 16 links: no case has more.
 use crate::maps;
+use crate::reads;
 use crate::same;
 use crate::same::Seen;
-use crate::words;
 use table::Map;
 
 // Number, and after 0 the distances.
@@ -28,14 +28,14 @@ fn dijkstra(
     list: &[u8],
     at: usize,
 ) -> Seen {
-    let source = words::index(list, at);
+    let source = reads::index(list, at);
     let mut dist = [0i64; 8];
     let mut offsets = [0usize; 9];
     let mut heads = [0u16; 32];
     let mut weights = [0i64; 32];
     let mut preds = [0u32; 8];
-    let mut heap = [0usize; 8];
-    let mut places = [0usize; 8];
+    let mut peaks = [0usize; 8];
+    let mut words = [0usize; 8];
     let mut keys = [0i64; 8];
     let number = dijkstra::dijkstra(
         map,
@@ -49,8 +49,8 @@ fn dijkstra(
         &mut heads,
         &mut weights,
         &mut preds,
-        &mut heap,
-        &mut places,
+        &mut peaks,
+        &mut words,
         &mut keys,
     );
     see_distances(number, &dist, map.bound, list, source.next)
@@ -66,7 +66,7 @@ fn bellman_ford(
     list: &[u8],
     at: usize,
 ) -> Seen {
-    let source = words::index(list, at);
+    let source = reads::index(list, at);
     let mut dist = [0i64; 8];
     let mut offsets = [0usize; 9];
     let mut heads = [0u16; 32];
@@ -100,7 +100,7 @@ fn read_guess(list: &[u8], at: usize, m: usize, guess: &mut [i64]) -> usize {
         if i >= m {
             break;
         }
-        let word = words::signed(list, next);
+        let word = reads::signed(list, next);
         let h = word.value;
         guess[i] = h;
         next = word.next;
@@ -110,13 +110,13 @@ fn read_guess(list: &[u8], at: usize, m: usize, guess: &mut [i64]) -> usize {
 }
 
 // Number, and after 0 the cost, the length and the path.
-fn see_path(found: a_star::Reached, path: &[u32], n: usize, list: &[u8], at: usize) -> Seen {
+fn see_path(found: a_star::Found, path: &[u32], n: usize, list: &[u8], at: usize) -> Seen {
     let given = same::number(list, at);
     if given.size != 0 {
         return same::refusal(found.number, given);
     }
-    let cost = words::signed_or_none(list, given.next);
-    let length = words::index(list, cost.next);
+    let cost = reads::signed_or_none(list, given.next);
+    let length = reads::index(list, cost.next);
     let entries = same::u32s(path, n, list, length.next);
     Seen {
         same: found.number == 0
@@ -137,8 +137,8 @@ fn a_star(
     list: &[u8],
     at: usize,
 ) -> Seen {
-    let source = words::index(list, at);
-    let target = words::index(list, source.next);
+    let source = reads::index(list, at);
+    let target = reads::index(list, source.next);
     let mut guess = [0i64; 8];
     let next = read_guess(list, target.next, map.bound, &mut guess);
     let mut path = [0u32; 8];
@@ -147,8 +147,8 @@ fn a_star(
     let mut weights = [0i64; 32];
     let mut dist = [0i64; 8];
     let mut preds = [0u32; 8];
-    let mut heap = [0usize; 8];
-    let mut places = [0usize; 8];
+    let mut peaks = [0usize; 8];
+    let mut words = [0usize; 8];
     let mut keys = [0i64; 8];
     let found = a_star::a_star(
         map,
@@ -165,8 +165,8 @@ fn a_star(
         &mut weights,
         &mut dist,
         &mut preds,
-        &mut heap,
-        &mut places,
+        &mut peaks,
+        &mut words,
         &mut keys,
     );
     see_path(found, &path, map.bound, list, next)
@@ -186,7 +186,7 @@ fn see_matrix(number: usize, matrix: &[i64], marks: &[u8], list: &[u8], at: usiz
     if given.size != 0 {
         return same::refusal(number, given);
     }
-    let size = words::index(list, given.next);
+    let size = reads::index(list, given.next);
     let cells = same::i64s(matrix, size.size as usize, list, size.next);
     Seen {
         same: number == 0 && is_square(size.size as usize, maps::present(marks)) && cells.same,
@@ -235,8 +235,8 @@ fn johnson(
     let mut heights = [0i64; 8];
     let mut dist = [0i64; 8];
     let mut preds = [0u32; 8];
-    let mut heap = [0usize; 8];
-    let mut places = [0usize; 8];
+    let mut peaks = [0usize; 8];
+    let mut words = [0usize; 8];
     let mut keys = [0i64; 8];
     let number = johnson::johnson(
         map,
@@ -251,8 +251,8 @@ fn johnson(
         &mut heights,
         &mut dist,
         &mut preds,
-        &mut heap,
-        &mut places,
+        &mut peaks,
+        &mut words,
         &mut keys,
     );
     see_matrix(number, &matrix, marks, list, at)
@@ -270,9 +270,9 @@ pub fn see_hops(
     if given.size != 0 {
         return same::refusal(counted.number, given);
     }
-    let count = words::index(list, given.next);
+    let count = reads::index(list, given.next);
     let named = same::u32s(nodes, count.size as usize, list, count.next);
-    let size = words::index(list, named.next);
+    let size = reads::index(list, named.next);
     let cells = same::u32s(matrix, size.size as usize, list, size.next);
     Seen {
         same: counted.number == 0

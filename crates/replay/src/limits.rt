@@ -19,8 +19,8 @@ fn ask(bound: usize, count: usize, from: &[u16], to: &[u16], costs: &[i32]) -> u
     let mut heads = [0u16; 8193];
     let mut weights = [0i64; 8193];
     let mut preds = [0u32; 1025];
-    let mut heap = [0usize; 1025];
-    let mut places = [0usize; 1025];
+    let mut peaks = [0usize; 1025];
+    let mut words = [0usize; 1025];
     let mut keys = [0i64; 1025];
     dijkstra::dijkstra(
         Map {
@@ -38,8 +38,8 @@ fn ask(bound: usize, count: usize, from: &[u16], to: &[u16], costs: &[i32]) -> u
         &mut heads,
         &mut weights,
         &mut preds,
-        &mut heap,
-        &mut places,
+        &mut peaks,
+        &mut words,
         &mut keys,
     )
 }
@@ -91,7 +91,8 @@ fn fill(from: &mut [u16], to: &mut [u16], costs: &mut [i32]) -> usize {
     count
 }
 
-// Link 8,192 is put, link 8,193 refused, though the slices have room; one sent again is taken. A question on 8,192 links is answered, on 8,193 refused.
+// Link 8,192 is put, link 8,193 refused, though the slices have room; one sent again is taken.
+// A question on 8,192 links is answered, on 8,193 refused.
 pub fn links() {
     let mut from = [0u16; 8193];
     let mut to = [0u16; 8193];
@@ -120,8 +121,8 @@ fn guess(name: &[u8], h: i64) {
     let mut weights = [0i64; 1];
     let mut dist = [0i64; 2];
     let mut preds = [0u32; 2];
-    let mut heap = [0usize; 2];
-    let mut places = [0usize; 2];
+    let mut peaks = [0usize; 2];
+    let mut words = [0usize; 2];
     let mut keys = [0i64; 2];
     let found = a_star::a_star(
         Map {
@@ -142,8 +143,8 @@ fn guess(name: &[u8], h: i64) {
         &mut weights,
         &mut dist,
         &mut preds,
-        &mut heap,
-        &mut places,
+        &mut peaks,
+        &mut words,
         &mut keys,
     );
     put_line(name, found.number);

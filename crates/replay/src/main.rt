@@ -1,12 +1,13 @@
 // Replays a list of the original's answers (standard input; how it is written and was made: LIST.md) and tries the limits of a map.
-// A line for each question: how many cases, and how many of them differ; before these a line for each line of the list that differs or is no case.
+// A line for each question: how many cases, and how many of them differ;
+// before these a line for each line of the list that differs or is no case.
 // Then a line for each limit, with the number given.
 mod floats;
 mod ints;
 mod limits;
 mod maps;
+mod reads;
 mod same;
-mod words;
 
 use libc::STDIN_FILENO;
 use libc::STDOUT_FILENO;
@@ -49,17 +50,17 @@ fn see(list: &[u8], at: usize, kind: u64) -> Seen {
 
 // The line that begins here. Gives its question if it is a case, else 0.
 fn replay_line(list: &[u8], at: usize, line: u64, differ: &mut [u64]) -> u64 {
-    let kind = words::question(list, at);
+    let kind = reads::question(list, at);
     if kind.size == 0 {
         put_fault(line, b"no question from 1 to 9");
         return 0;
     }
     let seen = see(list, kind.next, kind.size);
-    if seen.next == words::LOST {
+    if seen.next == reads::LOST {
         put_fault(line, b"a word is missing or is not what may stand there");
         return 0;
     }
-    if words::past(list, seen.next, b'\n') == words::LOST {
+    if reads::past(list, seen.next, b'\n') == reads::LOST {
         put_fault(line, b"no newline behind its last word");
         return 0;
     }
@@ -79,7 +80,7 @@ fn replay(list: &[u8], cases: &mut [u64], differ: &mut [u64]) {
             return;
         }
         bump(cases, replay_line(list, at, line, differ));
-        at = words::next_line(list, at);
+        at = reads::next_line(list, at);
         line += 1;
     }
 }

@@ -1,5 +1,6 @@
-// The map of a case: directed or not, its bound, its marks, then its records, which are put one after the other. A record that is refused is lost.
-use crate::words;
+// The map of a case: directed or not, its bound, its marks, then its records, which are put one after the other.
+// A record that is refused is lost.
+use crate::reads;
 use table::Map;
 use table::PutDone;
 
@@ -22,7 +23,7 @@ fn read_marks(list: &[u8], at: usize, m: usize, marks: &mut [u8]) -> usize {
         if i >= m {
             break;
         }
-        let word = words::whole(list, next, 1);
+        let word = reads::whole(list, next, 1);
         marks[i] = word.size as u8;
         next = word.next;
         i += 1;
@@ -45,8 +46,8 @@ pub fn present(marks: &[u8]) -> usize {
 
 // The map without its links.
 pub fn read_head(list: &[u8], at: usize, marks: &mut [u8]) -> Read {
-    let directed = words::whole(list, at, 1);
-    let bound = words::whole(list, directed.next, INDICES);
+    let directed = reads::whole(list, at, 1);
+    let bound = reads::whole(list, directed.next, INDICES);
     let m = bound.size as usize;
     let next = read_marks(list, bound.next, m, marks);
     Read {
@@ -60,7 +61,7 @@ fn taken(map: Map, done: PutDone, next: usize) -> Read {
     if done.refusal != 0 {
         return Read {
             map: map,
-            next: words::LOST,
+            next: reads::LOST,
         };
     }
     Read {
@@ -83,9 +84,9 @@ fn put_record(
     list: &[u8],
     at: usize,
 ) -> Read {
-    let a = words::whole(list, at, 65535);
-    let b = words::whole(list, a.next, 65535);
-    let cost = words::cost(list, b.next);
+    let a = reads::whole(list, at, 65535);
+    let b = reads::whole(list, a.next, 65535);
+    let cost = reads::cost(list, b.next);
     let done = table::put(
         map,
         marks,
@@ -109,7 +110,7 @@ pub fn put_records(
     list: &[u8],
     at: usize,
 ) -> Read {
-    let records = words::whole(list, at, RECORDS);
+    let records = reads::whole(list, at, RECORDS);
     let mut left = records.size;
     let mut read = Read {
         map: map,
@@ -133,10 +134,10 @@ fn put_record_f64(
     list: &[u8],
     at: usize,
 ) -> Read {
-    let a = words::whole(list, at, 65535);
-    let b = words::whole(list, a.next, 65535);
-    let cost = words::bits(list, b.next);
-    let open = words::whole(list, cost.next, 255);
+    let a = reads::whole(list, at, 65535);
+    let b = reads::whole(list, a.next, 65535);
+    let cost = reads::bits(list, b.next);
+    let open = reads::whole(list, cost.next, 255);
     let done = table::put_f64(
         map,
         marks,
@@ -163,7 +164,7 @@ pub fn put_records_f64(
     list: &[u8],
     at: usize,
 ) -> Read {
-    let records = words::whole(list, at, RECORDS);
+    let records = reads::whole(list, at, RECORDS);
     let mut left = records.size;
     let mut read = Read {
         map: map,

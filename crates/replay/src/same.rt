@@ -1,5 +1,5 @@
 // Are entries what the list says, one word for each?
-use crate::words;
+use crate::reads;
 
 // The answer, and the place behind the words that were read.
 pub struct Seen {
@@ -8,12 +8,12 @@ pub struct Seen {
 }
 
 // The number of an answer, by the list.
-pub fn number(list: &[u8], at: usize) -> words::Word {
-    words::whole(list, at, 8)
+pub fn number(list: &[u8], at: usize) -> reads::Word {
+    reads::whole(list, at, 8)
 }
 
 // An answer that is its number alone.
-pub fn refusal(got: usize, number: words::Word) -> Seen {
+pub fn refusal(got: usize, number: reads::Word) -> Seen {
     Seen {
         same: got as u64 == number.size,
         next: number.next,
@@ -29,7 +29,7 @@ pub fn i64s(got: &[i64], n: usize, list: &[u8], at: usize) -> Seen {
         if i >= n {
             break;
         }
-        let word = words::signed_or_none(list, next);
+        let word = reads::signed_or_none(list, next);
         same = same & (got[i] == word.value);
         next = word.next;
         i += 1;
@@ -41,7 +41,7 @@ pub fn i64s(got: &[i64], n: usize, list: &[u8], at: usize) -> Seen {
 }
 
 // Is an index, or a count of hops, the word's?
-fn is_index(x: u32, word: words::Word) -> bool {
+fn is_index(x: u32, word: reads::Word) -> bool {
     x as u64 == word.size
 }
 
@@ -54,7 +54,7 @@ pub fn u32s(got: &[u32], n: usize, list: &[u8], at: usize) -> Seen {
         if i >= n {
             break;
         }
-        let word = words::index_or_none(list, next);
+        let word = reads::index_or_none(list, next);
         same = same & is_index(got[i], word);
         next = word.next;
         i += 1;
@@ -74,7 +74,7 @@ pub fn f64s(got: &[u64], n: usize, list: &[u8], at: usize) -> Seen {
         if i >= n {
             break;
         }
-        let word = words::bits_or_none(list, next);
+        let word = reads::bits_or_none(list, next);
         same = same & (got[i] == word.size);
         next = word.next;
         i += 1;

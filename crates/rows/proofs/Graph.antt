@@ -10,20 +10,22 @@ use lib.ListN.{length, getD, take, drop, List·getD-map}
 use lib.Seq.{getD-take, getD-drop}
 use Rattle.table.specs.Links.{Link, linkOf, row, starts, arcs, Arc}
 use Rattle.clean.proofs.Filled.{no-default}
-use Rattle.rows.specs.Rows.{Lists, Room, Rows}
+use Rattle.rows.specs.Rows.{Lists, EnoughFor, Rows}
 use Rattle.rows.specs.RowArc.{RowArc, Sound}
 use Rattle.rows.proofs.Segments.{starts-le}
 use Rattle.rows.proofs.Members.{arc-row}
 
 -- what a list holds at a place of a row
-read : {X C : Type 0} (f : Link C → X) (A : List (Link C)) (u j : ℕ) (l : List X) (o : Link C) → j < length (row u A) → take (starts A (suc u) - starts A u) (drop (starts A u) l) ≡ map f (row u A) → getD l (starts A u + j) (f o) ≡ f (getD (row u A) j o)
+read : {X C : Type 0} (f : Link C → X) (A : List (Link C)) (u j : ℕ) (l : List X) (o : Link C) → j < length (row u A) → take (starts A (suc u) - starts A u) (drop (starts A u) l) ≡ map f (row u A)
+    → getD l (starts A u + j) (f o) ≡ f (getD (row u A) j o)
 read f A u j l o h e =
     sym (getD-drop (starts A u) l j (f o))
     ∙ (sym (getD-take (starts A (suc u) - starts A u) (drop (starts A u) l) j (f o) (omega arith))
     ∙ (ap (λ x. getD x j (f o)) e ∙ List·getD-map f (row u A) j o))
 
 -- the place of u's row that was read is an arc
-pub here : {C : Type 0} (m : ℕ) (nb : Lists C) (u at : ℕ) (o : C) → u < m → getD (nb .offsets) u 0 ≤ at → at < getD (nb .offsets) (u + 1) 0 → at < length (nb .weights) → RowArc m nb u (getD (nb .heads) at 0) (getD (nb .weights) at o)
+pub here : {C : Type 0} (m : ℕ) (nb : Lists C) (u at : ℕ) (o : C) → u < m → getD (nb .offsets) u 0 ≤ at → at < getD (nb .offsets) (u + 1) 0 → at < length (nb .weights)
+    → RowArc m nb u (getD (nb .heads) at 0) (getD (nb .weights) at o)
 here m nb u at o h p q l = record { at = at; index = h; from = p; to = q; head = refl; cost = λ x. no-default (nb .weights) at x o l }
 
 module _ {C : Type 0} {m : ℕ} {s₀ nb : Lists C} where
@@ -48,7 +50,7 @@ module _ {C : Type 0} {m : ℕ} {s₀ nb : Lists C} where
         ∙ (ap (λ (i : ℕ). take (starts A (suc u) - i) (drop i (nb .heads))) (r .start u (omega arith)) ∙ r .heads u h)
 
     -- a row lies in the lists
-    pub rows-inside : Room A m s₀ → (u : ℕ) → u < m → (getD (nb .offsets) (u + 1) 0 ≤ length (nb .heads)) × (getD (nb .offsets) (u + 1) 0 ≤ length (nb .weights))
+    pub rows-inside : EnoughFor A m s₀ → (u : ℕ) → u < m → (getD (nb .offsets) (u + 1) 0 ≤ length (nb .heads)) × (getD (nb .offsets) (u + 1) 0 ≤ length (nb .weights))
     rows-inside w u h =
         let k = r .start (u + 1) (omega arith) in
         (omega (arith, k, starts-le A (u + 1), w .heads, r .longH), omega (arith, k, starts-le A (u + 1), w .weights, r .longW))
@@ -84,7 +86,7 @@ module _ {C : Type 0} {m : ℕ} {s₀ nb : Lists C} where
         }
 
     -- a list whose arcs lead to indices fits a search
-    pub sound : m ≤ 1024 → Room A m s₀ → ((u v : ℕ) (c : C) → Arc d ls u v c → v < m) → Sound m nb
+    pub sound : m ≤ 1024 → EnoughFor A m s₀ → ((u v : ℕ) (c : C) → Arc d ls u v c → v < m) → Sound m nb
     sound h w f = record {
       bounded = h;
       starts = omega (arith, w .offsets, r .longO);

@@ -10,12 +10,12 @@ use lib.Dec.{leb}
 use lib.ListN.{length, drop, set, length-set}
 use lib.Seq.{drop-set-lt, drop-drop}
 use Rattle.whole.proofs.Cases.{and-left, and-right}
-use Rattle.clean.specs.Fill.{filled}
+use Rattle.clean.specs.Fill.{filled, Settled}
 use Rattle.clean.proofs.Filled.{filled-length, filled-rest, filled-same, filled-twice}
 use Rattle.table.specs.Links.{Link, starts}
-use Rattle.rows.specs.Rows.{Lists, listsOf, Room, Rows}
-use Rattle.rows.specs.Scratch.{hasRoom, wiped}
-use Rattle.rows.specs.Kept.{Kept, KeptLists, Needs}
+use Rattle.rows.specs.Rows.{Lists, listsOf, EnoughFor, Rows}
+use Rattle.rows.specs.Scratch.{hasLists, wiped}
+use Rattle.rows.specs.Kept.{Kept, KeptLists, EnoughLists}
 use Rattle.rows.proofs.Segments.{starts-le}
 
 module _ {A : Type 0} where
@@ -37,6 +37,9 @@ module _ {A : Type 0} where
   pub kept-set : {n : ℕ} (l : List A) (i : ℕ) (x : A) → i < n → Kept n l (set l i x)
   kept-set {n} l i x h = record { long = length-set l i x; rest = drop-set-lt n l i x h }
 
+  pub kept-settled : {n : ℕ} {E : ℕ → A → Type 0} {a b : List A} → Settled n E a b → Kept n a b
+  kept-settled s = record { long = s .long; rest = s .rest }
+
   pub kept-filled : {n : ℕ} (x : A) {a b : List A} → n ≤ length a → b ≡ filled n x a → Kept n a b
   kept-filled {n} x {a} h e = record { long = ap length e ∙ filled-length n x a h; rest = ap (drop n) e ∙ filled-rest n x a }
 
@@ -52,21 +55,21 @@ module _ {A : Type 0} where
 module _ {C : Type 0} where
   -- what the tests of the lengths say
   module _ (m a : ℕ) (s : Lists C) where
-    pub room-offsets : length (s .offsets) ≤ m → false ≡ hasRoom m a s
-    unfolding hasRoom
+    pub room-offsets : length (s .offsets) ≤ m → false ≡ hasLists m a s
+    unfolding hasLists
     room-offsets h = rw (lt-leb (m + 1) (length (s .offsets)) (omega arith))
 
-    pub room-heads : m < length (s .offsets) → length (s .heads) < a → false ≡ hasRoom m a s
-    unfolding hasRoom
+    pub room-heads : m < length (s .offsets) → length (s .heads) < a → false ≡ hasLists m a s
+    unfolding hasLists
     room-heads h k = rw (le-leb (m + 1) (length (s .offsets)) (omega arith), lt-leb a (length (s .heads)) k)
 
-    pub room-weights : m < length (s .offsets) → a ≤ length (s .heads) → leb a (length (s .weights)) ≡ hasRoom m a s
-    unfolding hasRoom
+    pub room-weights : m < length (s .offsets) → a ≤ length (s .heads) → leb a (length (s .weights)) ≡ hasLists m a s
+    unfolding hasLists
     room-weights h k = rw (le-leb (m + 1) (length (s .offsets)) (omega arith), le-leb a (length (s .heads)) k)
 
-  pub has-needs : (m a : ℕ) (s : Lists C) → hasRoom m a s ≡ true → Needs m a s
-  unfolding hasRoom
-  has-needs m a s e =
+  pub has-lists : (m a : ℕ) (s : Lists C) → hasLists m a s ≡ true → EnoughLists m a s
+  unfolding hasLists
+  has-lists m a s e =
       let f = and-right (leb (m + 1) (length (s .offsets))) _ e in
       record {
         offsets = leb-true _ _ (and-left (leb (m + 1) (length (s .offsets))) _ e);
@@ -75,10 +78,10 @@ module _ {C : Type 0} where
       }
 
   module _ {m a : ℕ} where
-    pub needs-kept : {s t : Lists C} → Needs m a s → KeptLists m a s t → Needs m a t
-    needs-kept n k = record { offsets = rw (k .offsets .long) (n .offsets); heads = rw (k .heads .long) (n .heads); weights = rw (k .weights .long) (n .weights) }
+    pub lists-kept : {s t : Lists C} → EnoughLists m a s → KeptLists m a s t → EnoughLists m a t
+    lists-kept n k = record { offsets = rw (k .offsets .long) (n .offsets); heads = rw (k .heads .long) (n .heads); weights = rw (k .weights .long) (n .weights) }
 
-    pub lists-wiped : (z : C) {s t : Lists C} → Needs m a s → t ≡ wiped m a z s → KeptLists m a s t
+    pub lists-wiped : (z : C) {s t : Lists C} → EnoughLists m a s → t ≡ wiped m a z s → KeptLists m a s t
     lists-wiped z n e = record {
       offsets = kept-filled 0 (n .offsets) (ap (λ (l : Lists C). l .offsets) e);
       heads = kept-filled 0 (n .heads) (ap (λ (l : Lists C). l .heads) e);
@@ -91,8 +94,8 @@ module _ {C : Type 0} where
 
     -- room for arcs that are no more than a, and what making their list keeps
     module _ {A : List (Link C)} (few : length A ≤ a) where
-      pub needs-room : {s : Lists C} → Needs m a s → Room A m s
-      needs-room n = record { offsets = omega (arith, n .offsets); heads = omega (arith, n .heads); weights = omega (arith, n .weights) }
+      pub lists-for : {s : Lists C} → EnoughLists m a s → EnoughFor A m s
+      lists-for n = record { offsets = omega (arith, n .offsets); heads = omega (arith, n .heads); weights = omega (arith, n .weights) }
 
       pub rows-kept : {s t : Lists C} → Rows A m s t → KeptLists m a s t
       rows-kept r =

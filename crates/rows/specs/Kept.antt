@@ -18,7 +18,7 @@ pub record KeptLists {C : Type 0} (m a : ℕ) (before after : Lists C) : Type 0 
   pub weights : Kept a (before .weights) (after .weights)
 
 -- they are long enough
-pub record Needs {C : Type 0} (m a : ℕ) (s : Lists C) : Type 0 where
+pub record EnoughLists {C : Type 0} (m a : ℕ) (s : Lists C) : Type 0 where
   pub offsets : m + 1 ≤ length (s .offsets)
   pub heads : a ≤ length (s .heads)
   pub weights : a ≤ length (s .weights)

@@ -8,8 +8,8 @@ use Rattle.clean.specs.Fill.{filled}
 use Rattle.rows.specs.Rows.{Lists, listsOf}
 
 -- are the slices long enough for m rows and a arcs?
-unfoldable pub hasRoom : {C : Type 0} → ℕ → ℕ → Lists C → Bool
-hasRoom m a s = leb (m + 1) (length (s .offsets)) && (leb a (length (s .heads)) && leb a (length (s .weights)))
+unfoldable pub hasLists : {C : Type 0} → ℕ → ℕ → Lists C → Bool
+hasLists m a s = leb (m + 1) (length (s .offsets)) && (leb a (length (s .heads)) && leb a (length (s .weights)))
 
 -- zero in the part needed, z being the zero of a weight; the rest as it was
 abbrev pub wiped : {C : Type 0} → ℕ → ℕ → C → Lists C → Lists C

@@ -26,8 +26,8 @@ use Rattle.pending.specs.Reach.{BadInReach}
 use Rattle.pending.specs.Answers.{DijkstraAnswer}
 use Rattle.pending.proofs.Dijkstra.{dijkstra-answer}
 use Rattle.turns.specs.Memory.{Memory, Shows}
-use Rattle.search.specs.Search.{keyOf, targetOf, Asked, askedOf, settingOf, Fair, Fit}
-use Rattle.search.specs.Runs.{Ran, Cheap, Reached, done, bad}
+use Rattle.search.specs.Ints.{keyOf, targetOf, Asked, askedOf, settingOf, Fair, Fit}
+use Rattle.search.specs.Runs.{Ran, Cheap, ToAll, done, bad}
 
 -- a predecessor that the end names, read
 pub shown-pred : {e : End ℤ} {M : Memory ℤ} → Shows noneI64 e M → (v u : ℕ) → v < length (M .preds) → e .pred v ≡ some u → getD (M .preds) v 0 ≡ u
@@ -85,11 +85,13 @@ module _ {m s : ℕ} {nb : Lists ℤ} where
         go (some d) f = inl (subst (λ (z : ℤ). Least (RowArc m nb) s v z) (sym (reads ∙ ap (shown noneI64) f)) (answer .least e v d f))
 
     -- the answer over the whole list of distances
-    pub reached : Reached (RowArc m nb) m s (M .dist) (M′ .dist) number
+    pub reached : ToAll (RowArc m nb) m s (M .dist) (M′ .dist) number
     reached = go (answer .number)
       where
-        go : (w .searched .end .number ≡ 0) ⊎ (w .searched .end .number ≡ 6) → Reached (RowArc m nb) m s (M .dist) (M′ .dist) number
-        go (inl e) = done (w .searched .is ∙ e) (answer .clean e) (settle noneI64 room (w .kept .dist .long) (λ v h. subst (Total (RowArc m nb) s v) (getD-take m (M′ .dist) v noneI64 h) (total e v)) (w .kept .dist .rest))
+        go : (w .searched .end .number ≡ 0) ⊎ (w .searched .end .number ≡ 6) → ToAll (RowArc m nb) m s (M .dist) (M′ .dist) number
+        go (inl e) =
+            done (w .searched .is ∙ e) (answer .clean e)
+            (settle noneI64 room (w .kept .dist .long) (λ v h. subst (Total (RowArc m nb) s v) (getD-take m (M′ .dist) v noneI64 h) (total e v)) (w .kept .dist .rest))
         go (inr e) = bad (w .searched .is ∙ e) (answer .refused-why e)
 
 -- ---- the answer goes by the arcs alone
@@ -100,6 +102,6 @@ module _ {A B : ℕ → ℕ → ℤ → Type 0} (f : (u v : ℕ) (c : ℤ) → A
 
 module _ {A B : ℕ → ℕ → ℤ → Type 0} (f : (u v : ℕ) (c : ℤ) → A u v c → B u v c) (b : (u v : ℕ) (c : ℤ) → B u v c → A u v c) where
   -- the distances
-  pub reached-over : {m s : ℕ} {before after : List ℤ} {no : ℕ} → Reached A m s before after no → Reached B m s before after no
+  pub reached-over : {m s : ℕ} {before after : List ℤ} {number : ℕ} → ToAll A m s before after number → ToAll B m s before after number
   reached-over (done e n d) = done e (λ x. n (bad-over b x)) (settled-over (λ v h x y. total-over f b y) d)
   reached-over (bad e n) = bad e (bad-over f n)

@@ -1,4 +1,5 @@
-pub mod Search
+pub mod Ints
+pub mod Floats
 pub mod Steps
 pub mod Runs
 pub mod Lists

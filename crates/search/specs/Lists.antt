@@ -10,8 +10,15 @@ use Rattle.turns.specs.Memory.{Memory, memoryOf}
 
 -- do the lists of the search have m entries each?
 unfoldable pub hasMemory : ℕ → Memory ℤ → Bool
-hasMemory m M = leb m (length (M .dist)) && (leb m (length (M .preds)) && (leb m (length (M .heap)) && (leb m (length (M .places)) && leb m (length (M .keys)))))
+hasMemory m M =
+    leb m (length (M .dist))
+    && (leb m (length (M .preds))
+    && (leb m (length (M .peaks))
+    && (leb m (length (M .words))
+    && leb m (length (M .keys)))))
 
 -- zero in the first m entries of each, and the rest as before
 abbrev pub wipedMemory : ℕ → Memory ℤ → Memory ℤ
-wipedMemory m M = memoryOf (filled m (pos 0) (M .dist)) (filled m 0 (M .preds)) (filled m 0 (M .heap)) (filled m 0 (M .places)) (filled m (pos 0) (M .keys))
+wipedMemory m M =
+    memoryOf (filled m (pos 0) (M .dist)) (filled m 0 (M .preds)) (filled m 0 (M .peaks)) (filled m 0 (M .words))
+    (filled m (pos 0) (M .keys))

@@ -12,7 +12,7 @@ use Rattle.rows.specs.RowArc.{RowArc, Sound}
 use Rattle.pending.specs.Reach.{BadInReach}
 use Rattle.turns.specs.Memory.{Memory}
 use Rattle.turns.specs.Firsts.{Ran as RanBy}
-use Rattle.search.specs.Search.{guided, targetOf, dear, Asked}
+use Rattle.search.specs.Ints.{guided, targetOf, dear, Asked}
 
 -- the search is over on the first entries
 abbrev pub Ran : Asked → Lists ℤ → Memory ℤ → Memory ℤ → ℕ → ℕ → Type 0
@@ -24,6 +24,6 @@ pub record Cheap (m : ℕ) (nb : Lists ℤ) : Type 0 where
   pub cheap : (u v : ℕ) (c : ℤ) → RowArc m nb u v c → P c ≤ dear
 
 -- the distances from s after the question without heuristic and target: 0 with every least total, or 6 with an arc below zero in reach
-pub data Reached (Arc : ℕ → ℕ → ℤ → Type 0) (m s : ℕ) (before after : List ℤ) (no : ℕ) : Type 0 where
-  done : no ≡ 0 → (BadInReach Arc s → ⊥) → Settled m (Total Arc s) before after → Reached Arc m s before after no
-  bad : no ≡ 6 → BadInReach Arc s → Reached Arc m s before after no
+pub data ToAll (Arc : ℕ → ℕ → ℤ → Type 0) (m s : ℕ) (before after : List ℤ) (number : ℕ) : Type 0 where
+  done : number ≡ 0 → (BadInReach Arc s → ⊥) → Settled m (Total Arc s) before after → ToAll Arc m s before after number
+  bad : number ≡ 6 → BadInReach Arc s → ToAll Arc m s before after number

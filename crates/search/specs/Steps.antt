@@ -7,7 +7,7 @@ use lib.Signed.{_≤ℤ_}
 use Rattle.whole.specs.Zed.{P}
 use Rattle.rows.specs.Rows.{Lists}
 use Rattle.rows.specs.RowArc.{RowArc}
-use Rattle.search.specs.Search.{dear, Fair}
+use Rattle.search.specs.Ints.{dear, Fair}
 
 -- no distance is above this: fewer than 1,024 arcs, each at most `dear`
 abbrev pub far : ℕ

@@ -15,7 +15,7 @@ use Rattle.lines.proofs.Places.{printed-more}
 use Rattle.mapfile.specs.Load.{State, engineMay}
 use Rattle.mapfile.proofs.Loads.{loaded-bounded}
 use Rattle.text.specs.Text.{line, engineLine, badText}
-use Rattle.answers.specs.Room.{most}
+use Rattle.answers.specs.Output.{most}
 use Rattle.answers.specs.Answers.{Written, zeros, zerosI}
 use Rattle.sheet.specs.Sheet.{readFile, Answer, Sound, Sheet, bad, sound}
 use Rattle.sheet.proofs.Ends.{Ended, broken, asks, file-ends}
@@ -51,13 +51,13 @@ pub engine-width : (e : ℕ) → length (engineLine e) ≤ 28
 engine-width e = omega (arith, length-append (decimalText e) newlineText, decimal-text-length e)
 
 -- the lines of a sound file, one after the other
-pub sound-lines : {s : State} {out one two three : List ℕ} {i j k : ℕ} → 98304 ≤ length out → Printed out 0 (engineLine (s .walk .engine)) one i
-    → Written (Answer s (s .walk .engine) (s .walk .source) (s .walk .target)) one i two j × (j ≤ i + most) → Printed two j (line endText []) three k
+pub sound-lines : {s : State} {out one two three : List ℕ} {i j k : ℕ} → 98304 ≤ length out → Printed out 0 (engineLine (s .reading .engine)) one i
+    → Written (Answer s (s .reading .engine) (s .reading .source) (s .reading .target)) one i two j × (j ≤ i + most) → Printed two j (line endText []) three k
     → Written (Sound s) out 0 three k × (k ≤ 98304)
 sound-lines {s} {out} {one} {two} {three} {i} {j} {k} h p w q =
-    let e = engineLine (s .walk .engine) in
+    let e = engineLine (s .reading .engine) in
     let a = w .0 .text in
-    let n = engine-width (s .walk .engine) in
+    let n = engine-width (s .reading .engine) in
     let l : length e + length a ≤ 98300 = omega (arith, n, p .ends, w .0 .printed .ends, w .1) in
     let r = printed-more out 0 e (omega (arith, n)) a one two i j p (w .0 .printed) in
     let t = printed-more out 0 (e ++ a) (omega (arith, length-append e a, l)) (line endText []) two three j k r q in
@@ -66,23 +66,25 @@ sound-lines {s} {out} {one} {two} {three} {i} {j} {k} h p w q =
 -- ---- by how the reading ended
 module _ (file : List ℕ) {s : State} (e : s ≡ readFile file) where
   -- a rule is broken
-  pub sheet-bad : {out after : List ℕ} {r : ℕ} → s .walk .stage ≡ 3 → 32 ≤ length after → Printed out 0 (badText (s .walk .at)) after r → Written (Sheet file) out 0 after r × (r ≤ length after)
+  pub sheet-bad : {out after : List ℕ} {r : ℕ} → s .reading .stage ≡ 3 → 32 ≤ length after → Printed out 0 (badText (s .reading .at)) after r → Written (Sheet file) out 0 after r × (r ≤ length after)
   sheet-bad h l p =
-      let k = s .walk .at in
-      (record { text = badText k; allowed = bad (rw e at h) (ap (λ (t : State). badText (t .walk .at)) e); printed = p }, omega (arith, p .ends, length-append (decimalText k) newlineText, decimal-text-length k))
+      let k = s .reading .at in (
+        record { text = badText k; allowed = bad (rw e at h) (ap (λ (t : State). badText (t .reading .at)) e); printed = p },
+        omega (arith, p .ends, length-append (decimalText k) newlineText, decimal-text-length k),
+      )
 
-  module _ (h : s .walk .stage ≡ 3 → ⊥) where
+  module _ (h : s .reading .stage ≡ 3 → ⊥) where
     -- an engine that the map's kind has is asked
-    asked : (s .walk .stage ≡ 4) × (engineMay (s .walk .engine) (s .walk .float) ≡ true)
-    asked = go (subst (λ (t : State). Ended (t .walk)) (sym e) (file-ends 16384 file (zeros 64) (zeros 512) (zeros 512) (zerosI 512) (zeros 512) (zeros 512)))
+    asked : (s .reading .stage ≡ 4) × (engineMay (s .reading .engine) (s .reading .float) ≡ true)
+    asked = go (subst (λ (t : State). Ended (t .reading)) (sym e) (file-ends 16384 file (zeros 64) (zeros 512) (zeros 512) (zerosI 512) (zeros 512) (zeros 512)))
       where
-        go : Ended (s .walk) → (s .walk .stage ≡ 4) × (engineMay (s .walk .engine) (s .walk .float) ≡ true)
+        go : Ended (s .reading) → (s .reading .stage ≡ 4) × (engineMay (s .reading .engine) (s .reading .float) ≡ true)
         go (broken b) = absurd (h b)
         go (asks a m) = (a, m)
 
     -- what the printing asks
-    pub ready : (engineMay (s .walk .engine) (s .walk .float) ≡ true) × (s .walk .bound ≤ 64)
-    ready = (asked .1, subst (λ (t : State). t .walk .bound ≤ 64) (sym e) (loaded-bounded 16384 file (zeros 64) (zeros 512) (zeros 512) (zerosI 512) (zeros 512) (zeros 512)))
+    pub ready : (engineMay (s .reading .engine) (s .reading .float) ≡ true) × (s .reading .bound ≤ 64)
+    ready = (asked .1, subst (λ (t : State). t .reading .bound ≤ 64) (sym e) (loaded-bounded 16384 file (zeros 64) (zeros 512) (zeros 512) (zerosI 512) (zeros 512) (zeros 512)))
 
     -- the whole sheet
     pub sheet-sound : {out after : List ℕ} {r : ℕ} → 98304 ≤ length after → Written (Sound s) out 0 after r × (r ≤ 98304) → Written (Sheet file) out 0 after r × (r ≤ length after)

@@ -24,7 +24,7 @@ sample =
     ∷ []
 
 -- the stage and the engine, and the links
-pub sample-read : (readFile sample .walk .stage ≡ 4) × (readFile sample .walk .engine ≡ 2)
+pub sample-read : (readFile sample .reading .stage ≡ 4) × (readFile sample .reading .engine ≡ 2)
     × (linksOf (intMap (readFile sample)) ≡ linkOf 0 1 (pos 5) ∷ linkOf 1 2 (negsuc 1) ∷ linkOf 0 2 (pos 4) ∷ [])
 unfolding filled samePair joinsEnds present presentBoth lentWhole tableNo placeAt placing shorter roomInts storeInts putInts
     u16At u32At costOf headAt linkAt askAt kindAt recordAt headStep linkMay afterPut linkStep engineMay askStep oneStep loaded

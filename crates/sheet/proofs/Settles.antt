@@ -7,7 +7,7 @@ use Prim.Native.Nat.{ℕ, _≤_, _<_}
 use native.Mathlib.Omega.{arith}
 use lib.ListN.{length, getD}
 use Rattle.whole.proofs.Cases.{clash, other}
-use Rattle.mapfile.specs.Load.{State, stateOf, brokenAt, startWalk}
+use Rattle.mapfile.specs.Load.{State, stateOf, brokenAt, startReading}
 use Rattle.mapfile.proofs.Loads.{overlong}
 use Rattle.answers.specs.Answers.{Written, zeros, zerosI, Dijkstra, BellmanFord, AStar, FloydWarshall, Johnson, Hops, DijkstraPath}
 use Rattle.answers.proofs.Settles.{written-one, dijkstra-one, bellman-ford-one, a-star-one, floyd-warshall-one, johnson-one, hops-one, dijkstra-path-one}
@@ -25,7 +25,7 @@ module _ (s : State) (source target : ℕ) (t : List ℕ) where
       ∷ AStar (intMap s) source target t
       ∷ FloydWarshall (intMap s) t
       ∷ Johnson (intMap s) t
-      ∷ ((s .walk .float ≡ false → Hops (intMap s) t) × (s .walk .float ≡ true → Hops (floatMap s) t))
+      ∷ ((s .reading .float ≡ false → Hops (intMap s) t) × (s .reading .float ≡ true → Hops (floatMap s) t))
       ∷ DijkstraPath (floatMap s) source t
       ∷ [])
       n
@@ -56,7 +56,7 @@ module _ {s : State} {engine source target : ℕ} where
 
 -- the lines of a sound file
 pub sound-one : {s : State} {t t′ : List ℕ} → Sound s t → Sound s t′ → t ≡ t′
-sound-one {s} x y = x .says ∙ (ap (soundText (s .walk .engine)) (answer-one (x .gives) (y .gives)) ∙ sym (y .says))
+sound-one {s} x y = x .says ∙ (ap (soundText (s .reading .engine)) (answer-one (x .gives) (y .gives)) ∙ sym (y .says))
 
 -- the sheet
 pub sheet-one : {file t t′ : List ℕ} → Sheet file t → Sheet file t′ → t ≡ t′
@@ -71,9 +71,9 @@ sheet-settled = written-one (λ t t′ x y. sheet-one x y)
 
 -- an overlong file, whatever its bytes are
 pub overlong-sheet : {file text : List ℕ} → 16384 < length file → Sheet file text → text ≡ badText 16384
-overlong-sheet {file} {text} h x = sheet-one x (bad (ap (λ (s : State). s .walk .stage) e) (ap (λ (s : State). badText (s .walk .at)) (sym e)))
+overlong-sheet {file} {text} h x = sheet-one x (bad (ap (λ (s : State). s .reading .stage) e) (ap (λ (s : State). badText (s .reading .at)) (sym e)))
   where
-    e : readFile file ≡ stateOf (brokenAt 16384 startWalk) (zeros 64) (zeros 512) (zeros 512) (zerosI 512) (zeros 512) (zeros 512)
+    e : readFile file ≡ stateOf (brokenAt 16384 startReading) (zeros 64) (zeros 512) (zeros 512) (zerosI 512) (zeros 512) (zeros 512)
     e = sym (overlong 16384 file (zeros 64) (zeros 512) (zeros 512) (zerosI 512) (zeros 512) (zeros 512) h refl)
 
 -- ---- what of the ask an engine looks at

@@ -7,7 +7,8 @@ use Rattle.walks.specs.Pigeon.{In}
 use Rattle.mapfile.specs.Load.{State}
 use Rattle.sheet.specs.Sheet.{Answer, dijkstra, bellmanFord, aStar, floydWarshall, johnson, hops, hops64, dijkstraPath}
 
--- 3 where a source must be present, 4 where a target must be, 6 for a bad cost met, 7 for a negative closed walk; hops give 0 alone ("never 6 or 7")
+-- 3 where a source must be present, 4 where a target must be, 6 for a bad cost met,
+-- 7 for a negative closed walk; hops give 0 alone ("never 6 or 7")
 abbrev pub Possible : {s : State} {engine source target : ℕ} {text : List ℕ} → Answer s engine source target text → Type 0
 Possible (dijkstra e x) = In (x .number) (0 ∷ 3 ∷ 6 ∷ [])
 Possible (bellmanFord e x) = In (x .number) (0 ∷ 7 ∷ [])

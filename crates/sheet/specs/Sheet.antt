@@ -17,11 +17,11 @@ readFile file = loaded 16384 file (zeros 64) (zeros 512) (zeros 512) (zerosI 512
 
 -- the map that was read, of integers
 abbrev pub intMap : State → Net ℤ
-intMap s = netOf (s .walk .bound) (s .walk .count) (s .walk .directed) (s .marks) (s .from) (s .to) (s .costs)
+intMap s = netOf (s .reading .bound) (s .reading .count) (s .reading .directed) (s .marks) (s .from) (s .to) (s .costs)
 
 -- or of f64
 abbrev pub floatMap : State → Net FloatCost
-floatMap s = netOf64 (s .walk .bound) (s .walk .count) (s .walk .directed) (s .marks) (s .from) (s .to) (s .bits) (s .opens)
+floatMap s = netOf64 (s .reading .bound) (s .reading .count) (s .reading .directed) (s .marks) (s .from) (s .to) (s .bits) (s .opens)
 
 -- the answer of the engine that is asked; of source and target an engine sees what its line names
 pub data Answer (s : State) (engine source target : ℕ) (text : List ℕ) : Type 0 where
@@ -30,19 +30,19 @@ pub data Answer (s : State) (engine source target : ℕ) (text : List ℕ) : Typ
   aStar : engine ≡ 3 → AStar (intMap s) source target text → Answer s engine source target text
   floydWarshall : engine ≡ 4 → FloydWarshall (intMap s) text → Answer s engine source target text
   johnson : engine ≡ 5 → Johnson (intMap s) text → Answer s engine source target text
-  hops : engine ≡ 6 → s .walk .float ≡ false → Hops (intMap s) text → Answer s engine source target text
-  hops64 : engine ≡ 6 → s .walk .float ≡ true → Hops (floatMap s) text → Answer s engine source target text
+  hops : engine ≡ 6 → s .reading .float ≡ false → Hops (intMap s) text → Answer s engine source target text
+  hops64 : engine ≡ 6 → s .reading .float ≡ true → Hops (floatMap s) text → Answer s engine source target text
   dijkstraPath : engine ≡ 7 → DijkstraPath (floatMap s) source text → Answer s engine source target text
 
 -- `engine E`; then the answer; then `end`
 pub record Sound (s : State) (text : List ℕ) : Type 0 where
   pub answer : List ℕ
-  pub gives : Answer s (s .walk .engine) (s .walk .source) (s .walk .target) answer
-  pub says : text ≡ soundText (s .walk .engine) answer
+  pub gives : Answer s (s .reading .engine) (s .reading .source) (s .reading .target) answer
+  pub says : text ≡ soundText (s .reading .engine) answer
 
 -- the text for a file
 pub data Sheet (file text : List ℕ) : Type 0 where
   -- a rule is broken at K: the single line `bad map at K`
-  bad : readFile file .walk .stage ≡ 3 → text ≡ badText (readFile file .walk .at) → Sheet file text
+  bad : readFile file .reading .stage ≡ 3 → text ≡ badText (readFile file .reading .at) → Sheet file text
   -- the file ends in its ask
-  sound : readFile file .walk .stage ≡ 4 → Sound (readFile file) text → Sheet file text
+  sound : readFile file .reading .stage ≡ 4 → Sound (readFile file) text → Sheet file text

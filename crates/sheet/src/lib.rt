@@ -4,21 +4,21 @@ ghost use mathlib.Core.Path.{_≡_};
 ghost use Prim.Native.Nat.{ℕ, _+_, _≤_};
 ghost use lib.ListN.{length};
 ghost use Rattle.mapfile.specs.Load.{stateOf, engineMay};
-ghost use Rattle.answers.specs.Room.{Fits, most};
+ghost use Rattle.answers.specs.Output.{Fits, most};
 ghost use Rattle.answers.specs.Answers.{Written};
 ghost use Rattle.sheet.specs.Sheet.{Answer, Sound, Sheet};
-use mapfile::Walk;
+use mapfile::Reading;
 use table::Map;
 
 // The most bytes of a map file.
 pub const LIMIT: usize = 16384;
 
 // The bytes of the output: more than 64 rows of 64 entries need.
-pub const ROOM: usize = 98304;
+pub const OUTPUT: usize = 98304;
 
 // Puts the answer of the engine that is asked.
 fn answer(
-    w: Walk,
+    w: Reading,
     marks: &[u8],
     from: &[u16],
     to: &[u16],
@@ -29,7 +29,10 @@ fn answer(
     at: usize,
 ) -> usize
     requires { ⌜ (engineMay (w .engine) (w .float) ≡ true) × Fits (w .bound) (now marks) (now out) at ⌝ }
-    ensures { λ r. ⌜ Written (Answer (stateOf w (now (marks .entry)) (now (from .entry)) (now (to .entry)) (now (costs .entry)) (now (bits .entry)) (now (opens .entry))) (w .engine) (w .source) (w .target)) (now (out .entry)) at (now (out .exit)) r ⌝ }
+    ensures { λ r. ⌜ Written
+        (Answer
+        (stateOf w (now (marks .entry)) (now (from .entry)) (now (to .entry)) (now (costs .entry)) (now (bits .entry)) (now (opens .entry)))
+        (w .engine) (w .source) (w .target)) (now (out .entry)) at (now (out .exit)) r ⌝ }
     ensures { λ r. ⌜ r ≤ at + most ⌝ }
 {
     let map = Map {
@@ -65,7 +68,7 @@ fn answer(
 
 // Puts the sheet of a file that ends in its ask.
 fn print_sound(
-    w: Walk,
+    w: Reading,
     marks: &[u8],
     from: &[u16],
     to: &[u16],
@@ -74,8 +77,12 @@ fn print_sound(
     opens: &[u8],
     out: &mut [u8],
 ) -> usize
-    requires { ⌜ (engineMay (w .engine) (w .float) ≡ true) × (w .bound ≤ 64) × (w .bound ≤ length (now marks)) × (98304 ≤ length (now out)) ⌝ }
-    ensures { λ r. ⌜ Written (Sound (stateOf w (now (marks .entry)) (now (from .entry)) (now (to .entry)) (now (costs .entry)) (now (bits .entry)) (now (opens .entry)))) (now (out .entry)) 0 (now (out .exit)) r ⌝ }
+    requires { ⌜ (engineMay (w .engine) (w .float) ≡ true) × (w .bound ≤ 64) × (w .bound ≤ length (now marks))
+        × (98304 ≤ length (now out)) ⌝ }
+    ensures { λ r. ⌜ Written
+        (Sound
+        (stateOf w (now (marks .entry)) (now (from .entry)) (now (to .entry)) (now (costs .entry)) (now (bits .entry))
+        (now (opens .entry)))) (now (out .entry)) 0 (now (out .exit)) r ⌝ }
     ensures { λ r. ⌜ r ≤ 98304 ⌝ }
 {
     let first = text::print_engine(out, 0, w.engine);
@@ -84,7 +91,7 @@ fn print_sound(
 }
 
 // The sheet of a map file: puts its text at the front of the output, and gives the number of bytes. The promise is in specs/Sheet.antt.
-pub fn sheet(file: &[u8], out: &mut [u8; ROOM]) -> usize
+pub fn sheet(file: &[u8], out: &mut [u8; OUTPUT]) -> usize
     ensures { λ r. ⌜ Written (Sheet (now (file .entry))) (now (out .entry)) 0 (now (out .exit)) r ⌝ }
     ensures { λ r. ⌜ r ≤ length (now (out .exit)) ⌝ }
 {

@@ -64,7 +64,8 @@ agree false true f g = g refl
 agree false false f g = refl
 
 -- the same arcs and the same presence: refusal 2 for both tables or for none
-pub same-inside : {C : Type 0} (d d′ : Bool) (m m′ : ℕ) (marks marks′ : List ℕ) (ls ks : List (Link C)) → ((i : ℕ) → present m marks i ≡ present m′ marks′ i) → ((u v : ℕ) (c : C) → Arc d ls u v c ↔ Arc d′ ks u v c) → allInside m marks ls ≡ allInside m′ marks′ ks
+pub same-inside : {C : Type 0} (d d′ : Bool) (m m′ : ℕ) (marks marks′ : List ℕ) (ls ks : List (Link C)) → ((i : ℕ) → present m marks i ≡ present m′ marks′ i)
+    → ((u v : ℕ) (c : C) → Arc d ls u v c ↔ Arc d′ ks u v c) → allInside m marks ls ≡ allInside m′ marks′ ks
 same-inside {C} d d′ m m′ marks marks′ ls ks h a =
     agree (allInside m marks ls) (allInside m′ marks′ ks)
     (λ e. inside-arc d′ m′ marks′ ks (λ u v c w. let k = arc-inside d m marks ls e u v c (a u v c .1 w) in (sym (h u) ∙ k .0, sym (h v) ∙ k .1)))

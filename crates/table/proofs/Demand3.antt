@@ -21,7 +21,7 @@ use lib.ListN.{length, take}
 use Rattle.table.specs.Links.{Link, inside, allInside, lentWhole, placing, Arc, Leads}
 use Rattle.table.specs.Lent.{RawCost, Ints, Floats}
 use Rattle.table.specs.Feeds.{feed, accepted, Single, Kind, ints, floats, Feed, fed, heldBy, acceptedBy, lastsOf, wholeAfter, HoldsLasts, SameFeeds, SameMaps}
-use Rattle.table.proofs.Numbers.{put-one-exactly, put-two-exactly}
+use Rattle.table.proofs.Numbers.{put-exactly}
 use Rattle.table.proofs.Tables.{putList, feedInto, costOf, Table, store, putTable, held, after, acceptedInto}
 use Rattle.table.proofs.Puts.{Sound, held-long, put-step}
 use Rattle.table.proofs.Feed.{not-both, single-feed, single-lasts, same-length, same-arcs, same-costs, fed-lasts}
@@ -42,7 +42,7 @@ module _ {C : Type 0} (d : Bool) (m room : ℕ) (marks : List ℕ) where
       let p = put-step d m room marks r t s in
       let q = fed-table rs t′ (p .sound) in
       let a = acceptedInto d m room marks t′ rs in
-      record { sound = q .sound; holds = q .holds ∙ (ap (λ (l : List (Link C)). feedInto d l a) (p .holds) ∙ sym (go (eqb (t′ .no) 0) a)) }
+      record { sound = q .sound; holds = q .holds ∙ (ap (λ (l : List (Link C)). feedInto d l a) (p .holds) ∙ sym (go (eqb (t′ .number) 0) a)) }
     where
       go : (x : Bool) (l : List (Link C)) → feedInto d (held t) (cond x (r ∷ []) [] ++ l) ≡ feedInto d (cond x (putList d r (held t)) (held t)) l
       go true l = refl
@@ -72,8 +72,8 @@ module _ {C R S : Type 0} (k : Kind C R S) (l : Follows k) (d : Bool) (m : ℕ) 
   accepted-shows (r ∷ rs) s n e =
       let q = put-shows r s n e in
       go (eqb (k .number (k .put d m marks r s)) 0) (accepted (k .put d m marks) (k .number) (k .put d m marks r s) rs)
-      ∙ ((λ i. cond (eqb (q i .no) 0) (k .seen r ∷ []) [] ++ accepted-shows rs (k .put d m marks r s) n (l .keeps d m marks r s ∙ e) i)
-      ∙ ap (λ (t : Table C). cond (eqb (putTable d m n marks (k .seen r) (tableOf k s) .no) 0) (k .seen r ∷ []) [] ++ acceptedInto d m n marks t (map (k .seen) rs)) q)
+      ∙ ((λ i. cond (eqb (q i .number) 0) (k .seen r ∷ []) [] ++ accepted-shows rs (k .put d m marks r s) n (l .keeps d m marks r s ∙ e) i)
+      ∙ ap (λ (t : Table C). cond (eqb (putTable d m n marks (k .seen r) (tableOf k s) .number) 0) (k .seen r ∷ []) [] ++ acceptedInto d m n marks t (map (k .seen) rs)) q)
     where
       go : (x : Bool) (a : List R) → map (k .seen) (cond x (r ∷ []) [] ++ a) ≡ cond x (k .seen r ∷ []) [] ++ map (k .seen) a
       go true a = refl
@@ -130,19 +130,22 @@ module _ {C R S : Type 0} (k : Kind C R S) (l : Follows k) (f : Feed R S) (e : k
   module _ (r : R) where
     next-number :
         k .number (k .put (f .directed) (f .bound) (f .marks) r (fed k f))
-        ≡ placing (f .directed) (f .bound) (k .room (fed k f)) (f .marks) (k .seen r .a) (k .seen r .b) (k .count (fed k f)) (k .places (fed k f)) .no
+        ≡ placing (f .directed) (f .bound) (k .room (fed k f)) (f .marks) (k .seen r .a) (k .seen r .b) (k .count (fed k f)) (k .places (fed k f)) .number
     unfolding store
-    next-number = ap (λ (t : Table C). t .no) (l .shows (f .directed) (f .bound) (f .marks) r (fed k f))
+    next-number = ap (λ (t : Table C). t .number) (l .shows (f .directed) (f .bound) (f .marks) r (fed k f))
 
     -- 1 where the bound is over its limit or the marks are too few
     pub next-one : lentWhole (f .bound) 0 0 (f .marks) ≡ false → k .number (k .put (f .directed) (f .bound) (f .marks) r (fed k f)) ≡ 1
-    next-one w = next-number ∙ put-one-exactly (f .bound) (k .count (fed k f)) (k .room (fed k f)) (f .marks) (k .places (fed k f)) (f .directed) (k .seen r .a) (k .seen r .b) .1 (fed-limits ∙ w)
+    next-one w =
+        next-number
+        ∙ put-exactly (f .directed) (f .bound) (k .room (fed k f)) (f .marks) (k .seen r .a) (k .seen r .b) (k .count (fed k f)) (k .places (fed k f)) (λ p. p) 1 .1 (fed-limits ∙ w)
 
     -- else 2 exactly for a record with an end that the map has not
     pub next-two : lentWhole (f .bound) 0 0 (f .marks) ≡ true → (k .number (k .put (f .directed) (f .bound) (f .marks) r (fed k f)) ≡ 2) ↔ (inside (f .bound) (f .marks) (k .seen r) ≡ false)
     next-two w =
-        let x = put-two-exactly (f .bound) (k .count (fed k f)) (k .room (fed k f)) (f .marks) (k .places (fed k f)) (f .directed) (k .seen r .a) (k .seen r .b) in
-        (λ z. ⊎-elim (λ y. not-both (fed-shown .sound .inside) y) (λ y. y) (x .0 (sym next-number ∙ z) .1), λ z. next-number ∙ x .1 (fed-limits ∙ w, inr z))
+        let x = put-exactly (f .directed) (f .bound) (k .room (fed k f)) (f .marks) (k .seen r .a) (k .seen r .b) (k .count (fed k f)) (k .places (fed k f)) (λ p. p) 2 in
+        let i = fed-shown .sound .inside in
+        (λ z. ⊎-elim (λ y. not-both i y) (λ y. y .1) (x .0 (sym next-number ∙ z) .1), λ z. next-number ∙ x .1 (fed-limits ∙ w, inr (i, z)))
 
 -- lists of different links with the same arcs are of one length
 alike : {C : Type 0} (d d′ : Bool) → d ≡ d′ → (ls ks : List (Link C)) → Single d ls → Single d′ ks → ((u v : ℕ) (c : C) → Arc d ls u v c ↔ Arc d′ ks u v c) → length ls ≡ length ks

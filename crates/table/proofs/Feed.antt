@@ -45,7 +45,8 @@ module _ {C : Type 0} where
   cost-put d u v r [] = refl
   cost-put d u v r (l ∷ ls) = go (cost-put d u v r ls) (joins d (r .a) (r .b) l) refl
     where
-      flip : (x y : Bool) → joins d u v l ≡ x → joins d u v r ≡ y → joins d (r .a) (r .b) l ≡ false → cond x (some (l .cost)) (cond y (some (r .cost)) (costOf d u v ls)) ≡ cond y (some (r .cost)) (cond x (some (l .cost)) (costOf d u v ls))
+      flip : (x y : Bool) → joins d u v l ≡ x → joins d u v r ≡ y → joins d (r .a) (r .b) l ≡ false
+          → cond x (some (l .cost)) (cond y (some (r .cost)) (costOf d u v ls)) ≡ cond y (some (r .cost)) (cond x (some (l .cost)) (costOf d u v ls))
       flip false y p q n = refl
       flip true false p q n = refl
       flip true true p q n = not-both (joins-ends d u v r l q ∙ p) n
@@ -56,7 +57,8 @@ module _ {C : Type 0} where
       same true false e = not-both refl e
       same false true e = not-both refl (sym e)
 
-      go : costOf d u v (putList d r ls) ≡ cond (joins d u v r) (some (r .cost)) (costOf d u v ls) → (t : Bool) → joins d (r .a) (r .b) l ≡ t → costOf d u v (cond t (linkOf (l .a) (l .b) (r .cost) ∷ ls) (l ∷ putList d r ls)) ≡ cond (joins d u v r) (some (r .cost)) (cond (joins d u v l) (some (l .cost)) (costOf d u v ls))
+      go : costOf d u v (putList d r ls) ≡ cond (joins d u v r) (some (r .cost)) (costOf d u v ls) → (t : Bool) → joins d (r .a) (r .b) l ≡ t
+          → costOf d u v (cond t (linkOf (l .a) (l .b) (r .cost) ∷ ls) (l ∷ putList d r ls)) ≡ cond (joins d u v r) (some (r .cost)) (cond (joins d u v l) (some (l .cost)) (costOf d u v ls))
       go h true e = same (joins d u v l) (joins d u v r) (joins-same d u v r l e)
       go h false e = rw h (flip (joins d u v l) (joins d u v r) refl refl e)
 
@@ -121,7 +123,8 @@ module _ {C : Type 0} where
   length-without d u v [] h = absurd (h refl)
   length-without d u v (l ∷ ls) h = go (λ k. length-without d u v ls k) (joins d u v l) h
     where
-      go : ((costOf d u v ls ≡ none → ⊥) → length ls ≡ suc (length (without d u v ls))) → (t : Bool) → (cond t (some (l .cost)) (costOf d u v ls) ≡ none → ⊥) → suc (length ls) ≡ suc (length (cond t ls (l ∷ without d u v ls)))
+      go : ((costOf d u v ls ≡ none → ⊥) → length ls ≡ suc (length (without d u v ls))) → (t : Bool) → (cond t (some (l .cost)) (costOf d u v ls) ≡ none → ⊥)
+          → suc (length ls) ≡ suc (length (cond t ls (l ∷ without d u v ls)))
       go f true h = refl
       go f false h = ap suc (f h)
 
@@ -130,7 +133,8 @@ module _ {C : Type 0} where
   cost-without d q x y [] h = refl
   cost-without d q x y (l ∷ ls) h = go (cost-without d q x y ls h) (joins d (q .a) (q .b) l) refl
     where
-      go : costOf d x y (without d (q .a) (q .b) ls) ≡ costOf d x y ls → (t : Bool) → joins d (q .a) (q .b) l ≡ t → costOf d x y (cond t ls (l ∷ without d (q .a) (q .b) ls)) ≡ cond (joins d x y l) (some (l .cost)) (costOf d x y ls)
+      go : costOf d x y (without d (q .a) (q .b) ls) ≡ costOf d x y ls → (t : Bool) → joins d (q .a) (q .b) l ≡ t
+          → costOf d x y (cond t ls (l ∷ without d (q .a) (q .b) ls)) ≡ cond (joins d x y l) (some (l .cost)) (costOf d x y ls)
       go i true e = rw (joins-same d x y q l e ∙ h)
       go i false e = rw i
 

@@ -49,7 +49,10 @@ module _ {C : Type 0} where
   joins-same d u v r l e =
       ⊎-elim
       (λ p. rw (p .0, p .1))
-      (λ p. rw (p .0, p .1, p .2) (or-comm (eqb (r .b) u && eqb (r .a) v) (eqb (r .b) v && eqb (r .a) u) ∙ (ap (λ (x : Bool). x || (eqb (r .b) u && eqb (r .a) v)) (and-comm (eqb (r .b) v) (eqb (r .a) u)) ∙ ap (λ (x : Bool). (eqb (r .a) u && eqb (r .b) v) || x) (and-comm (eqb (r .b) u) (eqb (r .a) v)))))
+      (λ p. rw (p .0, p .1, p .2)
+      (or-comm (eqb (r .b) u && eqb (r .a) v) (eqb (r .b) v && eqb (r .a) u)
+      ∙ (ap (λ (x : Bool). x || (eqb (r .b) u && eqb (r .a) v)) (and-comm (eqb (r .b) v) (eqb (r .a) u))
+      ∙ ap (λ (x : Bool). (eqb (r .a) u && eqb (r .b) v) || x) (and-comm (eqb (r .b) u) (eqb (r .a) v)))))
       (joined d (r .a) (r .b) l e)
 
   -- the ends turned into those of a link that joins them

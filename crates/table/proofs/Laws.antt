@@ -136,7 +136,8 @@ ends-long (x ∷ xs) [] (suc n) p q = absurd (not-suc-le-zero q)
 ends-long (x ∷ xs) (y ∷ ys) (suc n) p q = let h = ends-long xs ys n (le-of-suc-le-suc p) (le-of-suc-le-suc q) in omega arith
 
 -- all inside, one link more
-pub all-more : {C : Type 0} (m : ℕ) (marks : List ℕ) (ls : List (Link C)) (o : Link C) (i : ℕ) → i < length ls → allInside m marks (take i ls) ≡ true → inside m marks (getD ls i o) ≡ true → allInside m marks (take (suc i) ls) ≡ true
+pub all-more : {C : Type 0} (m : ℕ) (marks : List ℕ) (ls : List (Link C)) (o : Link C) (i : ℕ) → i < length ls → allInside m marks (take i ls) ≡ true → inside m marks (getD ls i o) ≡ true
+    → allInside m marks (take (suc i) ls) ≡ true
 all-more m marks [] o i h p q = refl
 all-more m marks (l ∷ ls) o zero h p q = rw q
 all-more m marks (l ∷ ls) o (suc i) h p q = rw (and-left (inside m marks l) _ p) (all-more m marks ls o i (le-of-suc-le-suc h) (and-right (inside m marks l) _ p) q)
@@ -260,7 +261,8 @@ module _ {C : Type 0} (d : Bool) (m room : ℕ) (marks : List ℕ) (u v n : ℕ)
   place-inside h e = rw (eq-eqb _ 0 h, e)
 
 -- the search over the ends of a good table for a good record
-pub place-found : (d : Bool) (m room : ℕ) (marks : List ℕ) (u v n : ℕ) (xs ys : List ℕ) (k : ℕ) → (room ≤ length xs) × (room ≤ length ys) → tableNo m n room marks (ends xs ys) ≡ 0 → presentBoth m marks u v ≡ true → FirstPlace d u v n xs ys k → placeAt room n k ≡ placing d m room marks u v n (ends xs ys)
+pub place-found : (d : Bool) (m room : ℕ) (marks : List ℕ) (u v n : ℕ) (xs ys : List ℕ) (k : ℕ) → (room ≤ length xs) × (room ≤ length ys) → tableNo m n room marks (ends xs ys) ≡ 0
+    → presentBoth m marks u v ≡ true → FirstPlace d u v n xs ys k → placeAt room n k ≡ placing d m room marks u v n (ends xs ys)
 place-found d m room marks u v n xs ys k r t i f =
     let w = whole m n room marks (whole-of-no m n room marks (ends xs ys) t) in
     ap (λ (j : ℕ). placeAt room n j) (first-place d u v xs ys n k (omega (arith, w .few, r .0)) (omega (arith, w .few, r .1)) f) ∙ place-inside d m room marks u v n (ends xs ys) t i
@@ -295,7 +297,8 @@ module _ {C : Type 0} (m n room : ℕ) (marks xs ys : List ℕ) (cs : List C) (h
   pub placing-ends : (d : Bool) (u v : ℕ) → placing d m room marks u v n (ends xs ys) ≡ placing d m room marks u v n (zip3 xs ys cs)
   placing-ends d u v = go (eqb (tableNo m n room marks (ends xs ys)) 0) refl (presentBoth m marks u v) refl
     where
-      go : (t : Bool) → eqb (tableNo m n room marks (ends xs ys)) 0 ≡ t → (s : Bool) → presentBoth m marks u v ≡ s → placing d m room marks u v n (ends xs ys) ≡ placing d m room marks u v n (zip3 xs ys cs)
+      go : (t : Bool) → eqb (tableNo m n room marks (ends xs ys)) 0 ≡ t → (s : Bool) → presentBoth m marks u v ≡ s
+          → placing d m room marks u v n (ends xs ys) ≡ placing d m room marks u v n (zip3 xs ys cs)
       go false e s q =
           let z = eqb-false _ 0 e in
           sym (place-refused d m room marks u v n (ends xs ys) z) ∙ (ap (λ (k : ℕ). placeNow k n 0 false) no-ends ∙ place-refused d m room marks u v n (zip3 xs ys cs) (λ y. z (no-ends ∙ y)))
@@ -305,7 +308,8 @@ module _ {C : Type 0} (m n room : ℕ) (marks xs ys : List ℕ) (cs : List C) (h
       go true e true q =
           let z = eqb-true _ 0 e in
           let f = whole m n room marks (whole-of-no m n room marks (ends xs ys) z) .few in
-          sym (place-inside d m room marks u v n (ends xs ys) z q) ∙ (ap (λ (k : ℕ). placeAt room n k) (place-ends d u v xs ys cs n (omega arith)) ∙ place-inside d m room marks u v n (zip3 xs ys cs) (sym no-ends ∙ z) q)
+          sym (place-inside d m room marks u v n (ends xs ys) z q)
+          ∙ (ap (λ (k : ℕ). placeAt room n k) (place-ends d u v xs ys cs n (omega arith)) ∙ place-inside d m room marks u v n (zip3 xs ys cs) (sym no-ends ∙ z) q)
 
 -- the ways in which a search ends: refused with k, or done at the place of the link, or at the end
 module _ {C : Type 0} (d : Bool) (m room : ℕ) (marks : List ℕ) (u v n : ℕ) (ls : List (Link C)) where
@@ -331,7 +335,8 @@ module _ {C : Type 0} (d : Bool) (m room : ℕ) (marks : List ℕ) (u v n : ℕ)
   pub found : Found (placing d m room marks u v n ls)
   found = go (eqb (tableNo m n room marks ls) 0) refl (presentBoth m marks u v) refl (ltb (placeOf d u v (take n ls)) n) refl (ltb n room) refl
     where
-      go : (t : Bool) → eqb (tableNo m n room marks ls) 0 ≡ t → (s : Bool) → presentBoth m marks u v ≡ s → (x : Bool) → ltb (placeOf d u v (take n ls)) n ≡ x → (y : Bool) → ltb n room ≡ y → Found (placing d m room marks u v n ls)
+      go : (t : Bool) → eqb (tableNo m n room marks ls) 0 ≡ t → (s : Bool) → presentBoth m marks u v ≡ s → (x : Bool) → ltb (placeOf d u v (take n ls)) n ≡ x → (y : Bool) → ltb n room ≡ y
+          → Found (placing d m room marks u v n ls)
       go false e s q x h y k = refused (tableNo m n room marks ls) (bad-table (eqb-false _ 0 e) refl) (sym (place-refused d m room marks u v n ls (eqb-false _ 0 e)))
       go true e false q x h y k = refused 2 (outside (eqb-true _ 0 e) q refl) (sym (place-outside d m room marks u v n ls (eqb-true _ 0 e) q))
       go true e true q true h y k =
@@ -344,14 +349,15 @@ module _ {C : Type 0} (d : Bool) (m room : ℕ) (marks : List ℕ) (u v n : ℕ)
           let i = ltb-false _ n h in
           let t = eqb-true _ 0 e in
           let r = ltb-false n room k in
-          refused 8 (full t q i (omega (arith, whole m n room marks (whole-of-no m n room marks ls t) .few)) refl) (sym (place-full room n (placeOf d u v (take n ls)) i r ∙ place-inside d m room marks u v n ls t q))
+          refused 8 (full t q i (omega (arith, whole m n room marks (whole-of-no m n room marks ls t) .few)) refl)
+          (sym (place-full room n (placeOf d u v (take n ls)) i r ∙ place-inside d m room marks u v n ls t q))
 
   -- a place that is given lies in the room
-  pub slot-room : (p : Place) → p ≡ placing d m room marks u v n ls → p .no ≡ 0 → p .slot < room
+  pub slot-room : (p : Place) → p ≡ placing d m room marks u v n ls → p .number ≡ 0 → p .slot < room
   slot-room p e z = by found
     where
       by : Found (placing d m room marks u v n ls) → p .slot < room
-      by (refused k w q) = absurd (not-zero k w (sym (ap (λ (x : Place). x .no) (e ∙ q)) ∙ z))
+      by (refused k w q) = absurd (not-zero k w (sym (ap (λ (x : Place). x .number) (e ∙ q)) ∙ z))
       by (replaced t i h q) =
           let s = ap (λ (x : Place). x .slot) (e ∙ q) in
           let f = whole m n room marks (whole-of-no m n room marks ls t) .few in
@@ -359,13 +365,13 @@ module _ {C : Type 0} (d : Bool) (m room : ℕ) (marks : List ℕ) (u v n : ℕ)
       by (appended t i h r q) = let s = ap (λ (x : Place). x .slot) (e ∙ q) in omega arith
 
   -- a refused link is not new
-  pub not-fresh : (p : Place) → p ≡ placing d m room marks u v n ls → (p .no ≡ 0 → ⊥) → p .fresh ≡ false
+  pub not-fresh : (p : Place) → p ≡ placing d m room marks u v n ls → (p .number ≡ 0 → ⊥) → p .fresh ≡ false
   not-fresh p e z = by found
     where
       by : Found (placing d m room marks u v n ls) → p .fresh ≡ false
       by (refused k w q) = ap (λ (x : Place). x .fresh) (e ∙ q)
-      by (replaced t i h q) = absurd (z (ap (λ (x : Place). x .no) (e ∙ q)))
-      by (appended t i h r q) = absurd (z (ap (λ (x : Place). x .no) (e ∙ q)))
+      by (replaced t i h q) = absurd (z (ap (λ (x : Place). x .number) (e ∙ q)))
+      by (appended t i h r q) = absurd (z (ap (λ (x : Place). x .number) (e ∙ q)))
 
 -- the lent slices side by side
 module _ {C : Type 0} where

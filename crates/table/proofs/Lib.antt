@@ -10,3 +10,4 @@ pub mod Puts
 pub mod Slices
 pub mod Demand3
 pub mod Small
+pub mod One

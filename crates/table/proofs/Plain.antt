@@ -35,7 +35,8 @@ unfolding present
 marked-present m marks f i h = rw (lt-ltb i m h, ne-eqb (getD marks i 0) 0 (f i h))
 
 -- the links are inside, place by place
-pub plain : {m n : ℕ} {marks xs ys : List ℕ} → Sized m n marks xs ys → ((k : ℕ) → k < m → getD marks k 0 ≡ 0 → ⊥) → ((k : ℕ) → k < n → getD xs k 0 < m) → ((k : ℕ) → k < n → getD ys k 0 < m) → allInside m marks (take n (ends xs ys)) ≡ true
+pub plain : {m n : ℕ} {marks xs ys : List ℕ} → Sized m n marks xs ys → ((k : ℕ) → k < m → getD marks k 0 ≡ 0 → ⊥) → ((k : ℕ) → k < n → getD xs k 0 < m) → ((k : ℕ) → k < n → getD ys k 0 < m)
+    → allInside m marks (take n (ends xs ys)) ≡ true
 plain {m} {n} {marks} {xs} {ys} w f p q = up n (omega arith)
   where
     up : (i : ℕ) → i ≤ n → allInside m marks (take i (ends xs ys)) ≡ true

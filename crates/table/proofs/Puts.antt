@@ -35,7 +35,8 @@ module _ {C : Type 0} where
   put-recost d r [] h = absurd (not-suc-le-zero h)
   put-recost d r (l ∷ ls) h = go (placeOf d (r .a) (r .b) ls) (λ k. put-recost d r ls k) (joins d (r .a) (r .b) l) h
     where
-      go : (k : ℕ) → (k < length ls → recost k (r .cost) ls ≡ putList d r ls) → (t : Bool) → cond t 0 (1 + k) < suc (length ls) → recost (cond t 0 (1 + k)) (r .cost) (l ∷ ls) ≡ cond t (linkOf (l .a) (l .b) (r .cost) ∷ ls) (l ∷ putList d r ls)
+      go : (k : ℕ) → (k < length ls → recost k (r .cost) ls ≡ putList d r ls) → (t : Bool) → cond t 0 (1 + k) < suc (length ls)
+          → recost (cond t 0 (1 + k)) (r .cost) (l ∷ ls) ≡ cond t (linkOf (l .a) (l .b) (r .cost) ∷ ls) (l ∷ putList d r ls)
       go k f true q = refl
       go k f false q = let e : 1 + k ≡ suc k = omega arith in rw e (ap {B = List (Link C)} (λ x. l ∷ x) (f (omega arith)))
 
@@ -44,7 +45,8 @@ module _ {C : Type 0} where
   put-end d r [] h = refl
   put-end d r (l ∷ ls) h = go (placeOf d (r .a) (r .b) ls) (put-end d r ls) (joins d (r .a) (r .b) l) h
     where
-      go : (k : ℕ) → (length ls ≤ k → putList d r ls ≡ ls ++ (r ∷ [])) → (t : Bool) → suc (length ls) ≤ cond t 0 (1 + k) → cond t (linkOf (l .a) (l .b) (r .cost) ∷ ls) (l ∷ putList d r ls) ≡ l ∷ (ls ++ (r ∷ []))
+      go : (k : ℕ) → (length ls ≤ k → putList d r ls ≡ ls ++ (r ∷ [])) → (t : Bool) → suc (length ls) ≤ cond t 0 (1 + k)
+          → cond t (linkOf (l .a) (l .b) (r .cost) ∷ ls) (l ∷ putList d r ls) ≡ l ∷ (ls ++ (r ∷ []))
       go k f true q = absurd (omega arith)
       go k f false q = ap {B = List (Link C)} (λ x. l ∷ x) (f (omega arith))
 
@@ -70,15 +72,15 @@ module _ {C : Type 0} (m room : ℕ) (marks : List ℕ) where
 
 -- the three ends of a store
 module _ {C : Type 0} (r : Link C) (n : ℕ) (ls : List (Link C)) where
-  store-refused : (k : ℕ) → (k ≡ 0 → ⊥) → store (placeNow k n 0 false) r ls ≡ record { no = k; count = n; places = ls }
+  store-refused : (k : ℕ) → (k ≡ 0 → ⊥) → store (placeNow k n 0 false) r ls ≡ record { number = k; count = n; places = ls }
   unfolding store
   store-refused k h = rw (ne-eqb k 0 h)
 
-  store-old : (k : ℕ) → store (placeNow 0 n k false) r ls ≡ record { no = 0; count = n; places = recost k (r .cost) ls }
+  store-old : (k : ℕ) → store (placeNow 0 n k false) r ls ≡ record { number = 0; count = n; places = recost k (r .cost) ls }
   unfolding store
   store-old k = refl
 
-  store-new : store (placeNow 0 (n + 1) n true) r ls ≡ record { no = 0; count = n + 1; places = set ls n r }
+  store-new : store (placeNow 0 (n + 1) n true) r ls ≡ record { number = 0; count = n + 1; places = set ls n r }
   unfolding store
   store-new = refl
 
@@ -86,10 +88,10 @@ module _ {C : Type 0} (d : Bool) (m room : ℕ) (marks : List ℕ) (r : Link C) 
   -- what a put leaves: the record put on the list of links if the number is 0, else the links that were there
   pub record Step (t′ : Table C) : Type 0 where
     pub sound : Sound m room marks t′
-    pub holds : held t′ ≡ cond (eqb (t′ .no) 0) (putList d r (held t)) (held t)
+    pub holds : held t′ ≡ cond (eqb (t′ .number) 0) (putList d r (held t)) (held t)
 
   -- a put that was done
-  done : (n : ℕ) (ls : List (Link C)) → inside m marks r ≡ true → n ≤ room → room ≤ length ls → take n ls ≡ putList d r (held t) → Step (record { no = 0; count = n; places = ls })
+  done : (n : ℕ) (ls : List (Link C)) → inside m marks r ≡ true → n ≤ room → room ≤ length ls → take n ls ≡ putList d r (held t) → Step (record { number = 0; count = n; places = ls })
   done n ls i f l e = record { sound = record { few = f; inside = ap (allInside m marks) e ∙ all-put d m marks r (held t) i (s .inside); roomy = l }; holds = e }
 
   pub put-step : Step (putTable d m room marks r t)

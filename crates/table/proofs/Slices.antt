@@ -17,7 +17,7 @@ use Rattle.table.proofs.Laws.{zip-long, room-ints, room-floats, not-fre
 
 -- the table that lent slices show
 abbrev pub tableOf : {C R S : Type 0} → Kind C R S → S → Table C
-tableOf k s = record { no = k .number s; count = k .count s; places = k .places s }
+tableOf k s = record { number = k .number s; count = k .count s; places = k .places s }
 
 -- a kind whose put changes the slices as it changes the table that they show, and keeps their room
 pub record Follows {C R S : Type 0} (k : Kind C R S) : Type 0 where
@@ -45,7 +45,8 @@ module _ {C : Type 0} where
   zip-cost (x ∷ xs) (y ∷ ys) (c′ ∷ cs) (suc k) c = ap {B = List (Link C)} (λ r. linkOf x y c′ ∷ r) (zip-cost xs ys cs k c)
 
   -- slices written at a place hold what a store leaves
-  zip-store : (x y : ℕ) (c : C) (k : ℕ) (xs ys : List ℕ) (cs : List C) (t s : Bool) → (s ≡ false → t ≡ false) → zip3 (written t k x xs) (written t k y ys) (written s k c cs) ≡ cond s (cond t (set (zip3 xs ys cs) k (linkOf x y c)) (recost k c (zip3 xs ys cs))) (zip3 xs ys cs)
+  zip-store : (x y : ℕ) (c : C) (k : ℕ) (xs ys : List ℕ) (cs : List C) (t s : Bool) → (s ≡ false → t ≡ false)
+      → zip3 (written t k x xs) (written t k y ys) (written s k c cs) ≡ cond s (cond t (set (zip3 xs ys cs) k (linkOf x y c)) (recost k c (zip3 xs ys cs))) (zip3 xs ys cs)
   zip-store x y c k xs ys cs true true h = zip-set xs ys cs k x y c
   zip-store x y c k xs ys cs false true h = zip-cost xs ys cs k c
   zip-store x y c k xs ys cs true false h = absurd (let z : _≡_ {A = Bool} true false = h refl in let y : _≡_ {A = ℕ} 0 1 = cc in omega arith)
@@ -69,10 +70,11 @@ costs-written true k x o bs os = costs-set bs os k x o
 costs-written false k x o bs os = refl
 
 -- ---- integer maps
-stored-ints : (p : Place) (r : Link ℤ) (xs ys : List ℕ) (cs : List ℤ) → ((p .no ≡ 0 → ⊥) → p .fresh ≡ false) → tableOf ints (storeInts p r xs ys cs) ≡ store p r (zip3 xs ys cs)
+stored-ints : (p : Place) (r : Link ℤ) (xs ys : List ℕ) (cs : List ℤ) → ((p .number ≡ 0 → ⊥) → p .fresh ≡ false) → tableOf ints (storeInts p r xs ys cs) ≡ store p r (zip3 xs ys cs)
 unfolding storeInts store
 stored-ints p r xs ys cs h =
-    ap (λ (l : List (Link ℤ)). record { no = p .no; count = p .count; places = l }) (zip-store (r .a) (r .b) (r .cost) (p .slot) xs ys cs (p .fresh) (eqb (p .no) 0) (λ e. h (eqb-false (p .no) 0 e)))
+    ap (λ (l : List (Link ℤ)). record { number = p .number; count = p .count; places = l })
+    (zip-store (r .a) (r .b) (r .cost) (p .slot) xs ys cs (p .fresh) (eqb (p .number) 0) (λ e. h (eqb-false (p .number) 0 e)))
 
 shows-ints : (d : Bool) (m : ℕ) (marks : List ℕ) (r : Link ℤ) (s : Ints) → tableOf ints (ints .put d m marks r s) ≡ putTable d m (ints .room s) marks r (tableOf ints s)
 unfolding putInts
@@ -89,12 +91,13 @@ pub follows-ints : Follows ints
 follows-ints = record { shows = shows-ints; keeps = keeps-ints; roomy = roomy-ints }
 
 -- ---- f64 maps
-stored-floats : (p : Place) (r : Link RawCost) (xs ys bs os : List ℕ) → ((p .no ≡ 0 → ⊥) → p .fresh ≡ false) → tableOf floats (storeFloats p r xs ys bs os) ≡ store p (floatSeen r) (zip3 xs ys (floatCosts bs os))
+stored-floats : (p : Place) (r : Link RawCost) (xs ys bs os : List ℕ) → ((p .number ≡ 0 → ⊥) → p .fresh ≡ false)
+    → tableOf floats (storeFloats p r xs ys bs os) ≡ store p (floatSeen r) (zip3 xs ys (floatCosts bs os))
 unfolding storeFloats store
 stored-floats p r xs ys bs os h =
-    ap (λ (l : List (Link FloatCost)). record { no = p .no; count = p .count; places = l })
-    (ap (zip3 (written (p .fresh) (p .slot) (r .a) xs) (written (p .fresh) (p .slot) (r .b) ys)) (costs-written (eqb (p .no) 0) (p .slot) (r .cost .bits) (r .cost .mark) bs os)
-    ∙ zip-store (r .a) (r .b) (floatSeen r .cost) (p .slot) xs ys (floatCosts bs os) (p .fresh) (eqb (p .no) 0) (λ e. h (eqb-false (p .no) 0 e)))
+    ap (λ (l : List (Link FloatCost)). record { number = p .number; count = p .count; places = l })
+    (ap (zip3 (written (p .fresh) (p .slot) (r .a) xs) (written (p .fresh) (p .slot) (r .b) ys)) (costs-written (eqb (p .number) 0) (p .slot) (r .cost .bits) (r .cost .mark) bs os)
+    ∙ zip-store (r .a) (r .b) (floatSeen r .cost) (p .slot) xs ys (floatCosts bs os) (p .fresh) (eqb (p .number) 0) (λ e. h (eqb-false (p .number) 0 e)))
 
 shows-floats : (d : Bool) (m : ℕ) (marks : List ℕ) (r : Link RawCost) (s : Floats) → tableOf floats (floats .put d m marks r s) ≡ putTable d m (floats .room s) marks (floatSeen r) (tableOf floats s)
 unfolding putFloats

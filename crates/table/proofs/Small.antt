@@ -12,12 +12,14 @@ use Rattle.table.specs.Lent.{shorter, roomInts, roomFloats, rawCost, Int
 use Rattle.table.specs.Feeds.{feed, ints, Feed, fed, SameFeeds}
 
 -- S9: 1→0 7 put, then 1→0 4: one link, cost 4
-pub s9 : feed (intsPut true 2 (1 ∷ 1 ∷ [])) (intsNow 0 0 (0 ∷ 0 ∷ []) (0 ∷ 0 ∷ []) (pos 0 ∷ pos 0 ∷ [])) (linkOf 1 0 (pos 7) ∷ linkOf 1 0 (pos 4) ∷ []) ≡ intsNow 0 1 (1 ∷ 0 ∷ []) (0 ∷ 0 ∷ []) (pos 4 ∷ pos 0 ∷ [])
+pub s9 : feed (intsPut true 2 (1 ∷ 1 ∷ [])) (intsNow 0 0 (0 ∷ 0 ∷ []) (0 ∷ 0 ∷ []) (pos 0 ∷ pos 0 ∷ [])) (linkOf 1 0 (pos 7) ∷ linkOf 1 0 (pos 4) ∷ [])
+    ≡ intsNow 0 1 (1 ∷ 0 ∷ []) (0 ∷ 0 ∷ []) (pos 4 ∷ pos 0 ∷ [])
 unfolding samePair joinsEnds present presentBoth lentWhole tableNo placeAt placing shorter roomInts storeInts putInts
 s9 = refl
 
 -- undirected, 1-0 open and then 0-1 closed: one link with its first ends, closed
-pub second-closed : feed (floatsPut false 2 (1 ∷ 1 ∷ [])) (floatsNow 0 0 (0 ∷ []) (0 ∷ []) (0 ∷ []) (0 ∷ [])) (linkOf 1 0 (rawCost 7 1) ∷ linkOf 0 1 (rawCost 4 0) ∷ []) ≡ floatsNow 0 1 (1 ∷ []) (0 ∷ []) (4 ∷ []) (0 ∷ [])
+pub second-closed : feed (floatsPut false 2 (1 ∷ 1 ∷ [])) (floatsNow 0 0 (0 ∷ []) (0 ∷ []) (0 ∷ []) (0 ∷ [])) (linkOf 1 0 (rawCost 7 1) ∷ linkOf 0 1 (rawCost 4 0) ∷ [])
+    ≡ floatsNow 0 1 (1 ∷ []) (0 ∷ []) (4 ∷ []) (0 ∷ [])
 unfolding samePair joinsEnds present presentBoth lentWhole tableNo placeAt placing shorter roomFloats storeFloats putFloats
 second-closed = refl
 

@@ -41,7 +41,7 @@ recost (ℕ.suc k) c (l ∷ ls) = l ∷ recost k c ls
 
 -- what a put leaves: its number, the count, and every place
 pub record Table (C : Type 0) : Type 0 where
-  pub no : ℕ
+  pub number : ℕ
   pub count : ℕ
   pub places : List (Link C)
 
@@ -53,9 +53,9 @@ held t = take (t .count) (t .places)
 unfoldable pub store : {C : Type 0} → Place → Link C → List (Link C) → Table C
 store p r ls =
     record {
-      no = p .no;
+      number = p .number;
       count = p .count;
-      places = cond (eqb (p .no) 0) (cond (p .fresh) (set ls (p .slot) r) (recost (p .slot) (r .cost) ls)) ls;
+      places = cond (eqb (p .number) 0) (cond (p .fresh) (set ls (p .slot) r) (recost (p .slot) (r .cost) ls)) ls;
     }
 
 -- Put into a table
@@ -68,4 +68,4 @@ after d m room marks t rs = feed (putTable d m room marks) t rs
 
 -- its accepted records
 abbrev pub acceptedInto : {C : Type 0} → Bool → ℕ → ℕ → List ℕ → Table C → List (Link C) → List (Link C)
-acceptedInto d m room marks t rs = accepted (putTable d m room marks) (λ t. t .no) t rs
+acceptedInto d m room marks t rs = accepted (putTable d m room marks) (λ t. t .number) t rs

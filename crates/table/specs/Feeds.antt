@@ -1,5 +1,5 @@
--- Feeds: records put one after the other into an empty table, and the map that demand 3 says they make, which holds the last accepted record
--- of each link. The theorems are in proofs/Demand3.antt.
+-- Feeds: records put one after the other into an empty table, and the map that demand 3 says they make,
+-- which holds the last accepted record of each link. The theorems are in proofs/Demand3.antt.
 -- Assumes nothing.
 use mathlib.Core.Path.{_≡_}
 use mathlib.Core.Bool.{Bool, true, false, cond, _||_}
@@ -52,7 +52,7 @@ ints =
     record {
       put = intsPut;
       seen = λ r. r;
-      number = λ s. s .no;
+      number = λ s. s .number;
       count = λ s. s .count;
       room = λ s. roomInts (s .from) (s .to) (s .costs);
       places = λ s. zip3 (s .from) (s .to) (s .costs);
@@ -64,7 +64,7 @@ floats =
     record {
       put = floatsPut;
       seen = floatSeen;
-      number = λ s. s .no;
+      number = λ s. s .number;
       count = λ s. s .count;
       room = λ s. roomFloats (s .from) (s .to) (s .bits) (s .opens);
       places = λ s. zip3 (s .from) (s .to) (floatCosts (s .bits) (s .opens));

@@ -53,7 +53,7 @@ written t k x l = cond t (set l k x) l
 
 -- what a put leaves in an integer map: its number, the count, and the lent slices
 pub record Ints : Type 0 where
-  pub no : ℕ
+  pub number : ℕ
   pub count : ℕ
   pub from : List ℕ
   pub to : List ℕ
@@ -61,11 +61,13 @@ pub record Ints : Type 0 where
 
 -- the same from its parts
 abbrev pub intsNow : ℕ → ℕ → List ℕ → List ℕ → List ℤ → Ints
-intsNow x n xs ys cs = record { no = x; count = n; from = xs; to = ys; costs = cs }
+intsNow x n xs ys cs = record { number = x; count = n; from = xs; to = ys; costs = cs }
 
 -- a record stored at its place: ends only where the link is new, the cost unless refused
 unfoldable pub storeInts : Place → Link ℤ → List ℕ → List ℕ → List ℤ → Ints
-storeInts p r xs ys cs = intsNow (p .no) (p .count) (written (p .fresh) (p .slot) (r .a) xs) (written (p .fresh) (p .slot) (r .b) ys) (written (eqb (p .no) 0) (p .slot) (r .cost) cs)
+storeInts p r xs ys cs =
+    intsNow (p .number) (p .count) (written (p .fresh) (p .slot) (r .a) xs) (written (p .fresh) (p .slot) (r .b) ys)
+    (written (eqb (p .number) 0) (p .slot) (r .cost) cs)
 
 -- Put into an integer map
 unfoldable pub putInts : Bool → ℕ → List ℕ → Link ℤ → ℕ → List ℕ → List ℕ → List ℤ → Ints
@@ -86,7 +88,7 @@ floatSeen r = linkOf (r .a) (r .b) (floatCost (r .cost .bits) (not (eqb (r .cost
 
 -- what a put leaves in an f64 map: its number, the count, and the lent slices
 pub record Floats : Type 0 where
-  pub no : ℕ
+  pub number : ℕ
   pub count : ℕ
   pub from : List ℕ
   pub to : List ℕ
@@ -95,16 +97,19 @@ pub record Floats : Type 0 where
 
 -- the same from its parts
 abbrev pub floatsNow : ℕ → ℕ → List ℕ → List ℕ → List ℕ → List ℕ → Floats
-floatsNow x n xs ys bs os = record { no = x; count = n; from = xs; to = ys; bits = bs; opens = os }
+floatsNow x n xs ys bs os = record { number = x; count = n; from = xs; to = ys; bits = bs; opens = os }
 
 -- a record stored at its place: ends only where the link is new, pattern and open mark unless refused
 unfoldable pub storeFloats : Place → Link RawCost → List ℕ → List ℕ → List ℕ → List ℕ → Floats
 storeFloats p r xs ys bs os =
-    floatsNow (p .no) (p .count) (written (p .fresh) (p .slot) (r .a) xs) (written (p .fresh) (p .slot) (r .b) ys) (written (eqb (p .no) 0) (p .slot) (r .cost .bits) bs) (written (eqb (p .no) 0) (p .slot) (r .cost .mark) os)
+    floatsNow (p .number) (p .count) (written (p .fresh) (p .slot) (r .a) xs) (written (p .fresh) (p .slot) (r .b) ys)
+    (written (eqb (p .number) 0) (p .slot) (r .cost .bits) bs)
+    (written (eqb (p .number) 0) (p .slot) (r .cost .mark) os)
 
 -- Put into an f64 map
 unfoldable pub putFloats : Bool → ℕ → List ℕ → Link RawCost → ℕ → List ℕ → List ℕ → List ℕ → List ℕ → Floats
-putFloats d m marks r n xs ys bs os = storeFloats (placing d m (roomFloats xs ys bs os) marks (r .a) (r .b) n (zip3 xs ys (floatCosts bs os))) r xs ys bs os
+putFloats d m marks r n xs ys bs os =
+    storeFloats (placing d m (roomFloats xs ys bs os) marks (r .a) (r .b) n (zip3 xs ys (floatCosts bs os))) r xs ys bs os
 
 -- Put into what a put before it left
 abbrev pub intsPut : Bool → ℕ → List ℕ → Link ℤ → Ints → Ints

@@ -1,3 +1,4 @@
 pub mod Links
 pub mod Lent
 pub mod Feeds
+pub mod Promise

@@ -85,14 +85,14 @@ tableNo m n room marks ls = cond (lentWhole m n room marks) (cond (allInside m m
 
 -- where a record goes: the number that comes back, the count after it, the place, and whether the link is new
 pub record Place : Type 0 where
-  pub no : ℕ
+  pub number : ℕ
   pub count : ℕ
   pub slot : ℕ
   pub fresh : Bool
 
 -- a place from its parts
 abbrev pub placeNow : ℕ → ℕ → ℕ → Bool → Place
-placeNow x n k t = record { no = x; count = n; slot = k; fresh = t }
+placeNow x n k t = record { number = x; count = n; slot = k; fresh = t }
 
 -- where a good record goes, k being the first place of its link among the first n: there, at the end, or 8 without room
 unfoldable pub placeAt : ℕ → ℕ → ℕ → Place

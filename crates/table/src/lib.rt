@@ -2,7 +2,8 @@ ghost use mathlib.Core.Bool.{true, false};
 ghost use mathlib.Core.Path.{_≡_};
 ghost use Prim.Native.Nat.{ℕ, _+_, _-_, _≤_, _<_};
 ghost use lib.ListN.{length, getD, take};
-ghost use Rattle.table.specs.Links.{present, presentBoth, lentWhole, allInside, ends, tableNo, samePair, joinsEnds, FirstPlace, placeNow, placing, linkOf};
+ghost use Rattle.table.specs.Links.{present, presentBoth, lentWhole, allInside, ends, tableNo};
+ghost use Rattle.table.specs.Links.{samePair, joinsEnds, FirstPlace, placeNow, placing, linkOf};
 ghost use Rattle.table.specs.Lent.{shorter, roomEnds, roomInts, roomFloats, written, intsNow, putInts, floatsNow, rawCost, putFloats};
 
 // The scalars of a lent map.
@@ -87,7 +88,8 @@ pub fn lent_whole(m: usize, n: usize, room: usize, marks: &[u8]) -> bool
     n <= room
 }
 
-// Are the first n numbers all below the top? Every number is looked at, so that no branch has to be guessed and many are compared at a time.
+// Are the first n numbers all below the top? Every number is looked at,
+// so that no branch has to be guessed and many are compared at a time.
 fn all_below(top: u16, n: usize, xs: &[u16]) -> bool
     requires { ⌜ n ≤ length (now xs) ⌝ }
     ensures { λ r. ⌜ (r ≡ true → (k : ℕ) → k < n → getD (now (xs .entry)) k 0 < top) ⌝ }
@@ -161,7 +163,8 @@ pub fn all_inside(m: usize, n: usize, marks: &[u8], from: &[u16], to: &[u16]) ->
     each_inside(m, n, marks, from, to)
 }
 
-// 1 where a limit is passed or a slice is too short, 2 where a link names an index that the map has not, else 0: for either kind of map, by its room.
+// 1 where a limit is passed or a slice is too short, 2 where a link names an index that the map has not, else 0:
+// for either kind of map, by its room.
 pub fn check_ends(map: Map, room: usize, marks: &[u8], from: &[u16], to: &[u16]) -> usize
     requires { ⌜ (room ≤ length (now from)) × (room ≤ length (now to)) ⌝ }
     ensures { λ r. ⌜ r ≡ tableNo (map .bound) (map .count) room (now (marks .entry)) (ends (now (from .entry)) (now (to .entry))) ⌝ }
@@ -257,14 +260,15 @@ pub fn find_place(
     b: u16,
 ) -> Place
     requires { ⌜ (room ≤ length (now from)) × (room ≤ length (now to)) ⌝ }
-    ensures { λ r. ⌜ placeNow (r .refusal) (r .count) (r .slot) (r .fresh) ≡ placing (map .directed) (map .bound) room (now (marks .entry)) a b (map .count) (ends (now (from .entry)) (now (to .entry))) ⌝ }
+    ensures { λ r. ⌜ placeNow (r .refusal) (r .count) (r .slot) (r .fresh)
+        ≡ placing (map .directed) (map .bound) room (now (marks .entry)) a b (map .count) (ends (now (from .entry)) (now (to .entry))) ⌝ }
 {
     let n = map.count;
     let m = map.bound;
     let directed = map.directed;
-    let no = check_ends(map, room, marks, from, to);
-    if no != 0 {
-        return refused(no, n);
+    let number = check_ends(map, room, marks, from, to);
+    if number != 0 {
+        return refused(number, n);
     }
     if !ends_present(m, marks, a, b) {
         return refused(2, n);
@@ -317,7 +321,9 @@ pub fn put(
     b: u16,
     cost: i32,
 ) -> PutDone
-    ensures { λ r. ⌜ intsNow (r .refusal) (r .count) (now (from .exit)) (now (to .exit)) (now (costs .exit)) ≡ putInts (map .directed) (map .bound) (now (marks .entry)) (linkOf a b cost) (map .count) (now (from .entry)) (now (to .entry)) (now (costs .entry)) ⌝ }
+    ensures { λ r. ⌜ intsNow (r .refusal) (r .count) (now (from .exit)) (now (to .exit)) (now (costs .exit))
+        ≡ putInts (map .directed) (map .bound) (now (marks .entry)) (linkOf a b cost) (map .count) (now (from .entry)) (now (to .entry))
+        (now (costs .entry)) ⌝ }
 {
     let most = room(from, to, costs);
     let p = find_place(map, most, marks, from, to, a, b);
@@ -345,7 +351,9 @@ pub fn put_f64(
     pattern: u64,
     opened: u8,
 ) -> PutDone
-    ensures { λ r. ⌜ floatsNow (r .refusal) (r .count) (now (from .exit)) (now (to .exit)) (now (bits .exit)) (now (opens .exit)) ≡ putFloats (map .directed) (map .bound) (now (marks .entry)) (linkOf a b (rawCost pattern opened)) (map .count) (now (from .entry)) (now (to .entry)) (now (bits .entry)) (now (opens .entry)) ⌝ }
+    ensures { λ r. ⌜ floatsNow (r .refusal) (r .count) (now (from .exit)) (now (to .exit)) (now (bits .exit)) (now (opens .exit))
+        ≡ putFloats (map .directed) (map .bound) (now (marks .entry)) (linkOf a b (rawCost pattern opened)) (map .count) (now (from .entry))
+        (now (to .entry)) (now (bits .entry)) (now (opens .entry)) ⌝ }
 {
     let most = room_f64(from, to, bits, opens);
     let p = find_place(map, most, marks, from, to, a, b);

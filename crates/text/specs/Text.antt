@@ -10,7 +10,8 @@ use lib.Signed.{ltZ}
 use lib.ListN.{length, getD, take, drop}
 use Rattle.clean.specs.None.{noneI64, noneU32, noneF64}
 use Rattle.net.specs.Net.{rising}
-use Rattle.lines.specs.Text.{spaceText, newlineText, decimalText, signedText, hexText, noneText, refusedText, endText, engineText, costText, pathText, rowText, badMapText}
+use Rattle.lines.specs.Text.{spaceText, newlineText, decimalText, signedText, hexText, noneText}
+use Rattle.lines.specs.Text.{refusedText, endText, engineText, costText, pathText, rowText, badMapText}
 
 -- a distance, a cost or an entry of a matrix: none is the least number of 64 bits
 unfoldable pub distanceText : ℤ → List ℕ

@@ -5,7 +5,8 @@ ghost use lib.IntN.{pos};
 ghost use lib.ListN.{length, getD, take, drop};
 ghost use Rattle.table.specs.Links.{present};
 ghost use Rattle.lines.specs.Text.{Printed, decimalText, signedText, endText, costText, pathText};
-ghost use Rattle.text.specs.Text.{distanceText, indexText, bitsText, field, entries, line, distanceLine, distanceLines, pathLines, width, rowLine, rowLines, treeLine, treeLines, refusedLine, engineLine, badText};
+ghost use Rattle.text.specs.Text.{distanceText, indexText, bitsText, field, entries, line, distanceLine, distanceLines};
+ghost use Rattle.text.specs.Text.{pathLines, width, rowLine, rowLines, treeLine, treeLines, refusedLine, engineLine, badText};
 
 // Puts a space and a number.
 fn put_number(out: &mut [u8], at: usize, n: u64) -> usize
@@ -88,7 +89,8 @@ fn print_distance(out: &mut [u8], at: usize, dist: &[i64], i: usize) -> usize
 // Puts a line `index distance` for each index that the map has.
 pub fn print_distances(out: &mut [u8], at: usize, bound: usize, marks: &[u8], dist: &[i64]) -> usize
     requires { ⌜ (bound ≤ length (now marks)) × (bound ≤ length (now dist)) × (at + bound * 43 ≤ length (now out)) ⌝ }
-    ensures { λ r. ⌜ Printed (now (out .entry)) at (distanceLines (present bound (now (marks .entry))) bound (now (dist .entry))) (now (out .exit)) r ⌝ }
+    ensures { λ r. ⌜ Printed (now (out .entry)) at
+        (distanceLines (present bound (now (marks .entry))) bound (now (dist .entry))) (now (out .exit)) r ⌝ }
 {
     let mut next = at;
     let mut i: usize = 0;
@@ -180,8 +182,11 @@ fn print_hop_row(out: &mut [u8], at: usize, matrix: &[u32], r: usize, p: usize, 
 
 // Puts a line `row i` with its distances for each index that the map has.
 pub fn print_rows(out: &mut [u8], at: usize, bound: usize, marks: &[u8], matrix: &[i64]) -> usize
-    requires { ⌜ (bound ≤ length (now marks)) × (width (present bound (now marks)) bound * width (present bound (now marks)) bound ≤ length (now matrix)) × (at + bound * (width (present bound (now marks)) bound * 22 + 25) ≤ length (now out)) ⌝ }
-    ensures { λ r. ⌜ Printed (now (out .entry)) at (rowLines distanceText (present bound (now (marks .entry))) bound (now (matrix .entry))) (now (out .exit)) r ⌝ }
+    requires { ⌜ (bound ≤ length (now marks))
+        × (width (present bound (now marks)) bound * width (present bound (now marks)) bound ≤ length (now matrix))
+        × (at + bound * (width (present bound (now marks)) bound * 22 + 25) ≤ length (now out)) ⌝ }
+    ensures { λ r. ⌜ Printed (now (out .entry)) at
+        (rowLines distanceText (present bound (now (marks .entry))) bound (now (matrix .entry))) (now (out .exit)) r ⌝ }
 {
     let p = net::count_present(bound, marks);
     let mut next = at;
@@ -205,8 +210,11 @@ pub fn print_hop_rows(
     marks: &[u8],
     matrix: &[u32],
 ) -> usize
-    requires { ⌜ (bound ≤ length (now marks)) × (width (present bound (now marks)) bound * width (present bound (now marks)) bound ≤ length (now matrix)) × (at + bound * (width (present bound (now marks)) bound * 21 + 25) ≤ length (now out)) ⌝ }
-    ensures { λ r. ⌜ Printed (now (out .entry)) at (rowLines indexText (present bound (now (marks .entry))) bound (now (matrix .entry))) (now (out .exit)) r ⌝ }
+    requires { ⌜ (bound ≤ length (now marks))
+        × (width (present bound (now marks)) bound * width (present bound (now marks)) bound ≤ length (now matrix))
+        × (at + bound * (width (present bound (now marks)) bound * 21 + 25) ≤ length (now out)) ⌝ }
+    ensures { λ r. ⌜ Printed (now (out .entry)) at
+        (rowLines indexText (present bound (now (marks .entry))) bound (now (matrix .entry))) (now (out .exit)) r ⌝ }
 {
     let p = net::count_present(bound, marks);
     let mut next = at;
@@ -278,8 +286,10 @@ pub fn print_tree(
     dist: &[u64],
     preds: &[u32],
 ) -> usize
-    requires { ⌜ (bound ≤ length (now marks)) × (bound ≤ length (now dist)) × (bound ≤ length (now preds)) × (at + bound * 59 ≤ length (now out)) ⌝ }
-    ensures { λ r. ⌜ Printed (now (out .entry)) at (treeLines (present bound (now (marks .entry))) bound (now (dist .entry)) (now (preds .entry))) (now (out .exit)) r ⌝ }
+    requires { ⌜ (bound ≤ length (now marks)) × (bound ≤ length (now dist)) × (bound ≤ length (now preds))
+        × (at + bound * 59 ≤ length (now out)) ⌝ }
+    ensures { λ r. ⌜ Printed (now (out .entry)) at
+        (treeLines (present bound (now (marks .entry))) bound (now (dist .entry)) (now (preds .entry))) (now (out .exit)) r ⌝ }
 {
     let mut next = at;
     let mut i: usize = 0;

@@ -15,7 +15,7 @@ use Rattle.rows.proofs.Kept.{kept-none, kept-more, kept-filled}
 use Rattle.turns.specs.Kind.{Kind}
 use Rattle.turns.specs.Memory.{Memory, memoryOf, Fresh}
 use Rattle.turns.specs.Searched.{Searched}
-use Rattle.turns.specs.Firsts.{firsts, Roomy, KeptMemory, Ran}
+use Rattle.turns.specs.Firsts.{firsts, EnoughMemory, KeptMemory, Ran}
 
 -- the part that was filled
 filled-first : {X : Type 0} (m : ℕ) (x : X) (l k : List X) → k ≡ filled m x l → take m k ≡ replicate m x
@@ -29,18 +29,24 @@ kept-first {m = m} p l h e = record { long = omega (arith, length-append p (drop
 module _ {K : Type 0} {m : ℕ} where
   -- nothing changed, and one change after another
   pub memory-none : {M : Memory K} → KeptMemory m M M
-  memory-none = record { dist = kept-none; preds = kept-none; heap = kept-none; places = kept-none; keys = kept-none }
+  memory-none = record { dist = kept-none; preds = kept-none; peaks = kept-none; words = kept-none; keys = kept-none }
 
   pub memory-more : {M M′ M″ : Memory K} → KeptMemory m M M′ → KeptMemory m M′ M″ → KeptMemory m M M″
-  memory-more p q = record { dist = kept-more (p .dist) (q .dist); preds = kept-more (p .preds) (q .preds); heap = kept-more (p .heap) (q .heap); places = kept-more (p .places) (q .places); keys = kept-more (p .keys) (q .keys) }
+  memory-more p q = record {
+    dist = kept-more (p .dist) (q .dist);
+    preds = kept-more (p .preds) (q .preds);
+    peaks = kept-more (p .peaks) (q .peaks);
+    words = kept-more (p .words) (q .words);
+    keys = kept-more (p .keys) (q .keys);
+  }
 
   -- there is room still
-  pub memory-roomy : {M M′ : Memory K} → Roomy m M → KeptMemory m M M′ → Roomy m M′
-  memory-roomy w k = record {
+  pub memory-enough : {M M′ : Memory K} → EnoughMemory m M → KeptMemory m M M′ → EnoughMemory m M′
+  memory-enough w k = record {
     dist = omega (arith, w .dist, k .dist .long);
     preds = omega (arith, w .preds, k .preds .long);
-    heap = omega (arith, w .heap, k .heap .long);
-    places = omega (arith, w .places, k .places .long);
+    peaks = omega (arith, w .peaks, k .peaks .long);
+    words = omega (arith, w .words, k .words .long);
     keys = omega (arith, w .keys, k .keys .long);
   }
 
@@ -48,24 +54,31 @@ module _ {K : Type 0} {m : ℕ} where
 pub record Parts {K : Type 0} (m : ℕ) (M : Memory K) : Type 0 where
   pub dist : m ≡ length (take m (M .dist))
   pub preds : m ≡ length (take m (M .preds))
-  pub heap : m ≡ length (take m (M .heap))
-  pub places : m ≡ length (take m (M .places))
+  pub peaks : m ≡ length (take m (M .peaks))
+  pub words : m ≡ length (take m (M .words))
   pub keys : m ≡ length (take m (M .keys))
 
 -- ---- the first entries, cleared and searched
-module _ {K C : Type 0} (Y : Kind K C) {m : ℕ} {M : Memory K} (w : Roomy m M) {d : List K} {p h i : List ℕ} (d-is : d ≡ filled m (Y .blank) (M .dist)) (p-is : p ≡ filled m noneU32 (M .preds)) (h-is : h ≡ filled m 0 (M .heap)) (i-is : i ≡ filled m 0 (M .places)) where
+module _ {K C : Type 0} (Y : Kind K C) {m : ℕ} {M : Memory K} (w : EnoughMemory m M) {d : List K} {p h i : List ℕ}
+    (e : (d ≡ filled m (Y .blank) (M .dist)) × (p ≡ filled m noneU32 (M .preds)) × (h ≡ filled m 0 (M .peaks)) × (i ≡ filled m 0 (M .words))) where
   cleared : KeptMemory m M (memoryOf d p h i (M .keys))
-  cleared = record { dist = kept-filled (Y .blank) (w .dist) d-is; preds = kept-filled noneU32 (w .preds) p-is; heap = kept-filled 0 (w .heap) h-is; places = kept-filled 0 (w .places) i-is; keys = kept-none }
+  cleared = record {
+    dist = kept-filled (Y .blank) (w .dist) (e .0);
+    preds = kept-filled noneU32 (w .preds) (e .1);
+    peaks = kept-filled 0 (w .peaks) (e .2);
+    words = kept-filled 0 (w .words) (e .3);
+    keys = kept-none;
+  }
 
-  roomy : Roomy m (memoryOf d p h i (M .keys))
-  roomy = memory-roomy w cleared
+  roomy : EnoughMemory m (memoryOf d p h i (M .keys))
+  roomy = memory-enough w cleared
 
   pub parts : Parts m (memoryOf d p h i (M .keys))
   parts = record {
     dist = sym (length-take-le m d (roomy .dist));
     preds = sym (length-take-le m p (roomy .preds));
-    heap = sym (length-take-le m h (roomy .heap));
-    places = sym (length-take-le m i (roomy .places));
+    peaks = sym (length-take-le m h (roomy .peaks));
+    words = sym (length-take-le m i (roomy .words));
     keys = sym (length-take-le m (M .keys) (w .keys));
   }
 
@@ -73,15 +86,16 @@ module _ {K C : Type 0} (Y : Kind K C) {m : ℕ} {M : Memory K} (w : Roomy m M) 
   pub fresh : m ≤ 1024 → Fresh Y m (firsts m (memoryOf d p h i (M .keys)))
   fresh few = record {
     few = few;
-    dist = filled-first m (Y .blank) (M .dist) d d-is;
-    preds = filled-first m noneU32 (M .preds) p p-is;
-    heap = filled-first m 0 (M .heap) h h-is;
-    places = filled-first m 0 (M .places) i i-is;
+    dist = filled-first m (Y .blank) (M .dist) d (e .0);
+    preds = filled-first m noneU32 (M .preds) p (e .1);
+    peaks = filled-first m 0 (M .peaks) h (e .2);
+    words = filled-first m 0 (M .words) i (e .3);
     keys = length-take-le m (M .keys) (w .keys);
   }
 
   -- a part that was searched stands before the rest
-  module _ (d′ : List K) (p′ h′ i′ : List ℕ) (k′ : List K) (ld : length d′ ≡ length (take m d)) (lp : length p′ ≡ length (take m p)) (lh : length h′ ≡ length (take m h)) (li : length i′ ≡ length (take m i)) (lk : length k′ ≡ length (take m (M .keys))) where
+  module _ (d′ : List K) (p′ h′ i′ : List ℕ) (k′ : List K) (ld : length d′ ≡ length (take m d)) (lp : length p′ ≡ length (take m p)) (lh : length h′ ≡ length (take m h))
+      (li : length i′ ≡ length (take m i)) (lk : length k′ ≡ length (take m (M .keys))) where
     abbrev after : Memory K
     after = memoryOf (d′ ++ drop m d) (p′ ++ drop m p) (h′ ++ drop m h) (i′ ++ drop m i) (k′ ++ drop m (M .keys))
 
@@ -92,10 +106,10 @@ module _ {K C : Type 0} (Y : Kind K C) {m : ℕ} {M : Memory K} (w : Roomy m M) 
     np = lp ∙ sym (parts .preds)
 
     nh : length h′ ≡ m
-    nh = lh ∙ sym (parts .heap)
+    nh = lh ∙ sym (parts .peaks)
 
     ni : length i′ ≡ m
-    ni = li ∙ sym (parts .places)
+    ni = li ∙ sym (parts .words)
 
     nk : length k′ ≡ m
     nk = lk ∙ sym (parts .keys)
@@ -104,7 +118,13 @@ module _ {K C : Type 0} (Y : Kind K C) {m : ℕ} {M : Memory K} (w : Roomy m M) 
     first-is = sym (λ j. memoryOf (take-at d′ (drop m d) m nd j) (take-at p′ (drop m p) m np j) (take-at h′ (drop m h) m nh j) (take-at i′ (drop m i) m ni j) (take-at k′ (drop m (M .keys)) m nk j))
 
     back : KeptMemory m (memoryOf d p h i (M .keys)) after
-    back = record { dist = kept-first d′ d (roomy .dist) nd; preds = kept-first p′ p (roomy .preds) np; heap = kept-first h′ h (roomy .heap) nh; places = kept-first i′ i (roomy .places) ni; keys = kept-first k′ (M .keys) (w .keys) nk }
+    back = record {
+      dist = kept-first d′ d (roomy .dist) nd;
+      preds = kept-first p′ p (roomy .preds) np;
+      peaks = kept-first h′ h (roomy .peaks) nh;
+      words = kept-first i′ i (roomy .words) ni;
+      keys = kept-first k′ (M .keys) (w .keys) nk;
+    }
 
     -- the search is over
     pub ran : {target : Option ℕ} {source number takes : ℕ} {nb : Lists C} → Searched Y m target source nb (memoryOf d′ p′ h′ i′ k′) number takes → Ran Y m target source nb M after number takes

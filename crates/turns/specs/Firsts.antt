@@ -12,25 +12,26 @@ use Rattle.turns.specs.Searched.{Searched}
 module _ {K : Type 0} where
   -- the first m entries of each list
   abbrev pub firsts : ℕ → Memory K → Memory K
-  firsts m M = memoryOf (take m (M .dist)) (take m (M .preds)) (take m (M .heap)) (take m (M .places)) (take m (M .keys))
+  firsts m M = memoryOf (take m (M .dist)) (take m (M .preds)) (take m (M .peaks)) (take m (M .words)) (take m (M .keys))
 
   -- each list has m entries
-  pub record Roomy (m : ℕ) (M : Memory K) : Type 0 where
+  pub record EnoughMemory (m : ℕ) (M : Memory K) : Type 0 where
     pub dist : m ≤ length (M .dist)
     pub preds : m ≤ length (M .preds)
-    pub heap : m ≤ length (M .heap)
-    pub places : m ≤ length (M .places)
+    pub peaks : m ≤ length (M .peaks)
+    pub words : m ≤ length (M .words)
     pub keys : m ≤ length (M .keys)
 
   -- the lengths and the entries from m on are as before
   pub record KeptMemory (m : ℕ) (M M′ : Memory K) : Type 0 where
     pub dist : Kept m (M .dist) (M′ .dist)
     pub preds : Kept m (M .preds) (M′ .preds)
-    pub heap : Kept m (M .heap) (M′ .heap)
-    pub places : Kept m (M .places) (M′ .places)
+    pub peaks : Kept m (M .peaks) (M′ .peaks)
+    pub words : Kept m (M .words) (M′ .words)
     pub keys : Kept m (M .keys) (M′ .keys)
 
 -- the search is over on the first m entries
-pub record Ran {K C : Type 0} (Y : Kind K C) (m : ℕ) (target : Option ℕ) (source : ℕ) (nb : Lists C) (M M′ : Memory K) (number takes : ℕ) : Type 0 where
+pub record Ran {K C : Type 0} (Y : Kind K C) (m : ℕ) (target : Option ℕ) (source : ℕ) (nb : Lists C) (M M′ : Memory K)
+    (number takes : ℕ) : Type 0 where
   pub searched : Searched Y m target source nb (firsts m M′) number takes
   pub kept : KeptMemory m M M′

@@ -28,7 +28,8 @@ pub record Kind (K C : Type 0) : Type 1 where
 
 -- the pending bag's setting for it, to a target if there is one, from a source
 abbrev pub settingOf : {K C : Type 0} → Kind K C → Option ℕ → ℕ → Setting K C
-settingOf Y target source = record { lt = Y .order .lt; zero = Y .zero; plus = Y .plus; key = Y .key; bad = Y .bad; cut = Y .cut; target = target; source = source }
+settingOf Y target source =
+    record { lt = Y .order .lt; zero = Y .zero; plus = Y .plus; key = Y .key; bad = Y .bad; cut = Y .cut; target = target; source = source }
 
 -- what one turn goes by: neither source nor target matters to it
 abbrev pub turnOf : {K C : Type 0} → Kind K C → Setting K C

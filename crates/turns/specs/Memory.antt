@@ -20,12 +20,12 @@ use Rattle.turns.specs.Kind.{Kind, turnOf}
 pub record Memory (K : Type 0) : Type 0 where
   pub dist : List K
   pub preds : List ℕ
-  pub heap : List ℕ
-  pub places : List ℕ
+  pub peaks : List ℕ
+  pub words : List ℕ
   pub keys : List K
 
 abbrev pub memoryOf : {K : Type 0} → List K → List ℕ → List ℕ → List ℕ → List K → Memory K
-memoryOf d p h i k = record { dist = d; preds = p; heap = h; places = i; keys = k }
+memoryOf d p h i k = record { dist = d; preds = p; peaks = h; words = i; keys = k }
 
 -- the lists show an answer: each distance and each predecessor, none where there is none
 pub record Shows {K : Type 0} (blank : K) (e : End K) (M : Memory K) : Type 0 where
@@ -37,25 +37,25 @@ abbrev pub predIn : ℕ → Option ℕ
 predIn p = pick (ltb p noneU32) (some p) none
 
 -- is a key there?
-abbrev pub waits : {K : Type 0} → Option K → Bool
-waits none = false
-waits (some k) = true
+abbrev pub isPending : {K : Type 0} → Option K → Bool
+isPending none = false
+isPending (some k) = true
 
 module _ {K C : Type 0} (Y : Kind K C) where
   -- what the lists say of an index, for the pending bag
   unfoldable pub cells : List K → List ℕ → List (Option K) → ℕ → Cell K
-  cells ds ps ct v = cellOf (Y .read (getD ds v (Y .blank))) (predIn (getD ps v noneU32)) (waits (getD ct v none))
+  cells ds ps ct v = cellOf (Y .read (getD ds v (Y .blank))) (predIn (getD ps v noneU32)) (isPending (getD ct v none))
 
   abbrev pub cellsOf : Memory K → ℕ → Cell K
-  cellsOf M = cells (M .dist) (M .preds) (contentOf (M .places) (M .keys))
+  cellsOf M = cells (M .dist) (M .preds) (contentOf (M .words) (M .keys))
 
   -- the lists are m long and say one thing: a bag of n pairs, with the key of each pending index
   pub record Good (m : ℕ) (M : Memory K) (n : ℕ) : Type 0 where
     pub longD : length (M .dist) ≡ m
     pub longP : length (M .preds) ≡ m
-    pub longB : length (M .places) ≡ m
-    pub bag : Bag (Y .order) (M .heap) (M .places) (M .keys) n
-    pub holds : Holds (turnOf Y) (λ v. getD (contentOf (M .places) (M .keys)) v none) (cellsOf M)
+    pub longB : length (M .words) ≡ m
+    pub bag : Bag (Y .order) (M .peaks) (M .words) (M .keys) n
+    pub holds : Holds (turnOf Y) (λ v. getD (contentOf (M .words) (M .keys)) v none) (cellsOf M)
     pub oks : (v : ℕ) → OkCell (Y .good) (cellsOf M v)
     pub tidyD : (v : ℕ) → getD (M .dist) v (Y .blank) ≡ shown (Y .blank) (distOf (cellsOf M v))
     pub tidyP : (v : ℕ) → getD (M .preds) v noneU32 ≡ shown noneU32 (predOf (cellsOf M v))
@@ -65,6 +65,6 @@ module _ {K C : Type 0} (Y : Kind K C) where
     pub few : m ≤ 1024
     pub dist : M .dist ≡ replicate m (Y .blank)
     pub preds : M .preds ≡ replicate m noneU32
-    pub heap : M .heap ≡ replicate m 0
-    pub places : M .places ≡ replicate m 0
+    pub peaks : M .peaks ≡ replicate m 0
+    pub words : M .words ≡ replicate m 0
     pub keys : length (M .keys) ≡ m

@@ -34,19 +34,24 @@ module _ {K C : Type 0} (Y : Kind K C) where
     pub tail : u < 1024
     pub inD : v < length (M .dist)
     pub inP : v < length (M .preds)
-    pub inB : v < length (M .places)
+    pub inB : v < length (M .words)
     pub dist : Y .good d
     pub cost : Y .bad c ≡ false
     pub entry : (getD (M .dist) v (Y .blank) ≡ Y .blank) ⊎ Y .good (getD (M .dist) v (Y .blank))
-    pub bag : Bag (Y .order) (M .heap) (M .places) (M .keys) n
-    pub lower : betterAt (Y .plus d c) (getD (M .dist) v (Y .blank)) ≡ true → NotAbove (Y .order) (contentOf (M .places) (M .keys)) v (Y .key (Y .plus d c) v)
+    pub bag : Bag (Y .order) (M .peaks) (M .words) (M .keys) n
+    pub lower : betterAt (Y .plus d c) (getD (M .dist) v (Y .blank)) ≡ true
+        → NotAbove (Y .order) (contentOf (M .words) (M .keys)) v (Y .key (Y .plus d c) v)
 
   -- what it leaves: its total is past the cutoff, or no better, or stored
   pub data Looked (u : ℕ) (d : K) (v : ℕ) (c : C) (n : ℕ) (M M′ : Memory K) (n′ : ℕ) : Type 0 where
     past : Y .cut (Y .plus d c) ≡ true → n′ ≡ n → M′ ≡ M → Looked u d v c n M M′ n′
-    kept : Y .cut (Y .plus d c) ≡ false → betterAt (Y .plus d c) (getD (M .dist) v (Y .blank)) ≡ false → n′ ≡ n → M′ ≡ M → Looked u d v c n M M′ n′
-    stored : Y .cut (Y .plus d c) ≡ false → betterAt (Y .plus d c) (getD (M .dist) v (Y .blank)) ≡ true → M′ .dist ≡ set (M .dist) v (Y .plus d c) → M′ .preds ≡ set (M .preds) v u
-        → Bag (Y .order) (M′ .heap) (M′ .places) (M′ .keys) n′ → contentOf (M′ .places) (M′ .keys) ≡ set (contentOf (M .places) (M .keys)) v (some (Y .key (Y .plus d c) v)) → Looked u d v c n M M′ n′
+    kept : Y .cut (Y .plus d c) ≡ false → betterAt (Y .plus d c) (getD (M .dist) v (Y .blank)) ≡ false → n′ ≡ n → M′ ≡ M
+        → Looked u d v c n M M′ n′
+    stored : Y .cut (Y .plus d c) ≡ false → betterAt (Y .plus d c) (getD (M .dist) v (Y .blank)) ≡ true
+        → M′ .dist ≡ set (M .dist) v (Y .plus d c) → M′ .preds ≡ set (M .preds) v u
+        → Bag (Y .order) (M′ .peaks) (M′ .words) (M′ .keys) n′
+        → contentOf (M′ .words) (M′ .keys) ≡ set (contentOf (M .words) (M .keys)) v (some (Y .key (Y .plus d c) v))
+        → Looked u d v c n M M′ n′
 
   -- u was taken with the distance d, and the arcs of its row before place i were looked at; M₀ is what the row began with
   pub record Row (m : ℕ) (nb : Lists C) (u : ℕ) (d : K) (i n : ℕ) (M₀ M : Memory K) : Type 0 where

@@ -19,8 +19,8 @@ module _ {K C : Type 0} (Y : Kind K C) where
   pub record Started (s : ℕ) (M M′ : Memory K) (n : ℕ) : Type 0 where
     pub dist : M′ .dist ≡ set (M .dist) s (Y .zero)
     pub preds : M′ .preds ≡ set (M .preds) s noneU32
-    pub bag : Bag (Y .order) (M′ .heap) (M′ .places) (M′ .keys) n
-    pub content : contentOf (M′ .places) (M′ .keys) ≡ set (contentOf (M .places) (M .keys)) s (some (Y .key (Y .zero) s))
+    pub bag : Bag (Y .order) (M′ .peaks) (M′ .words) (M′ .keys) n
+    pub content : contentOf (M′ .words) (M′ .keys) ≡ set (contentOf (M .words) (M .keys)) s (some (Y .key (Y .zero) s))
 
   -- the search that is over: its end by the pending bag, over the neighbour list's arcs
   pub record Searched (m : ℕ) (target : Option ℕ) (source : ℕ) (nb : Lists C) (M : Memory K) (number takes : ℕ) : Type 0 where

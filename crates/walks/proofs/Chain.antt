@@ -40,7 +40,11 @@ module _ {Arc : ℕ → ℕ → ℤ → Type 0} {o : ℕ} {dist : ℕ → Option
   -- an index on it has a chain no longer
   tail-at : {v : ℕ} (c : Chain Arc o dist pred v) (x : ℕ) → In x (passed c) → (b : Chain Arc o dist pred x) × hops b ≤ hops c
   tail-at (source i) x (here e) = (source (e ∙ i), omega arith)
-  tail-at {v} (via u n p l c) x (here e) = (via {v = x} u (λ q. n (sym e ∙ q)) (ap pred e ∙ p) (record { d = l .d; e = l .e; c = l .c; from = l .from; to = ap dist e ∙ l .to; arc-is = subst (λ (z : ℕ). Arc u z (l .c)) (sym e) (l .arc-is); up = l .up; low = l .low }) c, omega arith)
+  tail-at {v} (via u n p l c) x (here e) = (
+    via {v = x} u (λ q. n (sym e ∙ q)) (ap pred e ∙ p)
+        (record { d = l .d; e = l .e; c = l .c; from = l .from; to = ap dist e ∙ l .to; arc-is = subst (λ (z : ℕ). Arc u z (l .c)) (sym e) (l .arc-is); up = l .up; low = l .low }) c,
+    omega arith,
+  )
   tail-at (via u n p l c) x (there i) = let r = tail-at c x i in (r .0, omega (arith, r .1))
 
   -- no index twice

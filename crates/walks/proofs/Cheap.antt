@@ -83,7 +83,8 @@ module _ {Arc : ℕ → ℕ → ℤ → Type 0} where
             inr (record { s = q .s; walk = q .walk; cheap = q .cheap; near = omega arith })
 
   -- with no closed walk below zero in reach, a least total lies within (p - 1) * B
-  pub least-within : {s v : ℕ} {d : ℤ} (ps : List ℕ) (B : ℕ) → ((u v : ℕ) (c : ℤ) → Arc u v c → In v ps) → In s ps → Costs B Arc → NoNeg Arc s → Least Arc s v d → (n : ℕ) × n < length ps × Within (n * B) d
+  pub least-within : {s v : ℕ} {d : ℤ} (ps : List ℕ) (B : ℕ) → ((u v : ℕ) (c : ℤ) → Arc u v c → In v ps) → In s ps → Costs B Arc → NoNeg Arc s → Least Arc s v d
+      → (n : ℕ) × n < length ps × Within (n * B) d
   least-within {s} {v} {d} ps B f i g nn l =
       let q : Simple (l .walk) = elim (simple-from (l .walk)) [ inl n ↦ absurd (not-both n nn) | inr q ↦ q ] in
       let b : Within (arcs (q .walk) * B) (q .s) = bounded B g (q .walk) in

@@ -30,7 +30,8 @@ module _ {Arc : ℕ → ℕ → ℤ → Type 0} {D : ℕ → ℤ → Type 0} {Pe
       on : (y : ℤ) → y ≤ℤ d ⊕ c → y ⊕ t ≤ℤ b
       on y k = omega (arith, zed, sum d c, sum c t, sum d r, sum y t)
 
-      go : Pend u ⊎ ((v : ℕ) (c : ℤ) → Arc u v c → (e : ℤ) × D v e × e ≤ℤ d ⊕ c) → ((y : ℤ) → y ⊕ t ≤ℤ b → D v y → ((e : ℤ) × D w e × e ≤ℤ b) ⊎ Waits Arc D Pend w b) → ((e : ℤ) × D w e × e ≤ℤ b) ⊎ Waits Arc D Pend w b
+      go : Pend u ⊎ ((v : ℕ) (c : ℤ) → Arc u v c → (e : ℤ) × D v e × e ≤ℤ d ⊕ c) → ((y : ℤ) → y ⊕ t ≤ℤ b → D v y → ((e : ℤ) × D w e × e ≤ℤ b) ⊎ Waits Arc D Pend w b)
+          → ((e : ℤ) × D w e × e ≤ℤ b) ⊎ Waits Arc D Pend w b
       go (inl p) rec = inr (record { x = u; e = d; t = r; pend = p; label = l; way = step a x e; low = h })
       go (inr f) rec = let k = f v c a in rec (k .0) (on (k .0) (k .2)) (k .1)
 

@@ -19,7 +19,20 @@ module _ {Arc : ℕ → ℕ → ℤ → Type 0} (h : ℕ → ℤ) where
   shift {t} {r} (stay {u} q) e = stay {t = r} (omega (arith, zed, sum t (h u), sum (t ⊕ h u) (negℤ (h u)), neg (h u)))
   shift {t = s} {r} (step {u} {v} {w} {c} {t} a x q) e =
       step {c = c ⊕ h u ⊖ h v} {t = t ⊕ h v ⊖ h w} {r = r} (c, a, refl) (shift x refl)
-      (omega (arith, zed, sum c t, sum s (h u), sum (s ⊕ h u) (negℤ (h w)), neg (h w), neg (h v), sum c (h u), sum (c ⊕ h u) (negℤ (h v)), sum t (h v), sum (t ⊕ h v) (negℤ (h w)), sum (c ⊕ h u ⊖ h v) (t ⊕ h v ⊖ h w)))
+      (omega (
+        arith,
+        zed,
+        sum c t,
+        sum s (h u),
+        sum (s ⊕ h u) (negℤ (h w)),
+        neg (h w),
+        neg (h v),
+        sum c (h u),
+        sum (c ⊕ h u) (negℤ (h v)),
+        sum t (h v),
+        sum (t ⊕ h v) (negℤ (h w)),
+        sum (c ⊕ h u ⊖ h v) (t ⊕ h v ⊖ h w),
+      ))
 
   -- and back
   pub unshift : {u v : ℕ} {t r : ℤ} → Walk (Shifted Arc h) u v r → r ≡ t ⊕ h u ⊖ h v → Walk Arc u v t
@@ -37,5 +50,6 @@ module _ {Arc : ℕ → ℕ → ℤ → Type 0} (h : ℕ → ℤ) where
       let e = d ⊕ h v ⊖ h s in
       record {
         walk = unshift (l .walk) (omega (arith, zed, sum d (h v), sum (d ⊕ h v) (negℤ (h s)), neg (h s), neg (h v), sum e (h s), sum (e ⊕ h s) (negℤ (h v))));
-        least = λ t w. let k : d ≤ℤ t ⊕ h s ⊖ h v = l .least _ (shift w refl) in omega (arith, zed, sum d (h v), sum (d ⊕ h v) (negℤ (h s)), neg (h s), neg (h v), sum t (h s), sum (t ⊕ h s) (negℤ (h v)));
+        least =
+            λ t w. let k : d ≤ℤ t ⊕ h s ⊖ h v = l .least _ (shift w refl) in omega (arith, zed, sum d (h v), sum (d ⊕ h v) (negℤ (h s)), neg (h s), neg (h v), sum t (h s), sum (t ⊕ h s) (negℤ (h v)));
       }

@@ -37,7 +37,8 @@ pub record Negative (Arc : ℕ → ℕ → ℤ → Type 0) : Type 0 where
   pub loop : Walk Arc x x t
   pub below : t <ℤ pos 0
 
--- what an answer holds for v: the least total of a walk from s, which lies in -2^41 ..= 2^41 and so is never none, or none where there is no walk
+-- what an answer holds for v: the least total of a walk from s,
+-- which lies in -2^41 ..= 2^41 and so is never none, or none where there is no walk
 abbrev pub Entry : (ℕ → ℕ → ℤ → Type 0) → ℕ → ℕ → ℤ → Type 0
 Entry Arc s v d = (Least Arc s v d × Within (2 ^ 41) d) ⊎ ((d ≡ noneI64) × ((t : ℤ) → Walk Arc s v t → ⊥))
 

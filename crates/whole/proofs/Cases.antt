@@ -9,7 +9,7 @@ pub clash : {b : Bool} → b ≡ true → b ≡ false → ⊥
 clash p q = true≢false (sym p ∙ q)
 
 -- no number is two different ones
-pub other : {A : Type 0} {no : ℕ} (x y : ℕ) → no ≡ x → no ≡ y → (x ≡ y → ⊥) → A
+pub other : {A : Type 0} {number : ℕ} (x y : ℕ) → number ≡ x → number ≡ y → (x ≡ y → ⊥) → A
 other x y p q f = absurd (f (sym p ∙ q))
 
 -- what holds of both ways of a test holds of what it picks

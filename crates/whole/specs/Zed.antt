@@ -79,7 +79,8 @@ eq-out (negsuc a) (negsuc b) h = ap negsuc (omega arith)
 sub-parts : (a b : ℕ) → P (subℕ a b) + b ≡ N (subℕ a b) + a
 sub-parts a b = go (ltb a b) (ltb→lt a b) (nltb→le a b)
   where
-    go : (t : Bool) → (T t → a < b) → (T (not t) → b ≤ a) → P (cond t (negsuc (b - suc a)) (pos (a - b))) + b ≡ N (cond t (negsuc (b - suc a)) (pos (a - b))) + a
+    go : (t : Bool) → (T t → a < b) → (T (not t) → b ≤ a)
+        → P (cond t (negsuc (b - suc a)) (pos (a - b))) + b ≡ N (cond t (negsuc (b - suc a)) (pos (a - b))) + a
     go true f g = let k : a < b = f tt in omega arith
     go false f g = let k : b ≤ a = g tt in omega arith
 

@@ -12,19 +12,19 @@ extern "C" {
         bits: Out, _: usize, opens: Out, _: usize, a: u16, b: u16, pattern: u64, opened: u8) -> usize;
     fn dimetumble_dijkstra(bound: usize, count: usize, directed: u8, marks: In, _: usize, from: In, _: usize, to: In, _: usize,
         costs: In, _: usize, source: usize, dist: Out, _: usize, offsets: Out, _: usize, heads: Out, _: usize, weights: Out, _: usize,
-        preds: Out, _: usize, heap: Out, _: usize, places: Out, _: usize, keys: Out, _: usize) -> usize;
+        preds: Out, _: usize, peaks: Out, _: usize, words: Out, _: usize, keys: Out, _: usize) -> usize;
     fn dimetumble_bellman_ford(bound: usize, count: usize, directed: u8, marks: In, _: usize, from: In, _: usize, to: In, _: usize,
         costs: In, _: usize, source: usize, dist: Out, _: usize, offsets: Out, _: usize, heads: Out, _: usize, weights: Out, _: usize,
         queue: Out, _: usize, queued: Out, _: usize, lengths: Out, _: usize) -> usize;
     fn dimetumble_a_star(bound: usize, count: usize, directed: u8, marks: In, _: usize, from: In, _: usize, to: In, _: usize,
         costs: In, _: usize, source: usize, target: usize, guess: In, _: usize, cost: *mut i64, length: *mut usize, path: Out, _: usize,
         offsets: Out, _: usize, heads: Out, _: usize, weights: Out, _: usize, dist: Out, _: usize, preds: Out, _: usize,
-        heap: Out, _: usize, places: Out, _: usize, keys: Out, _: usize) -> usize;
+        peaks: Out, _: usize, words: Out, _: usize, keys: Out, _: usize) -> usize;
     fn dimetumble_floyd_warshall(bound: usize, count: usize, directed: u8, marks: In, _: usize, from: In, _: usize, to: In, _: usize,
         costs: In, _: usize, matrix: Out, _: usize, ranks: Out, _: usize) -> usize;
     fn dimetumble_johnson(bound: usize, count: usize, directed: u8, marks: In, _: usize, from: In, _: usize, to: In, _: usize,
         costs: In, _: usize, matrix: Out, _: usize, offsets: Out, _: usize, heads: Out, _: usize, weights: Out, _: usize,
-        heights: Out, _: usize, dist: Out, _: usize, preds: Out, _: usize, heap: Out, _: usize, places: Out, _: usize,
+        heights: Out, _: usize, dist: Out, _: usize, preds: Out, _: usize, peaks: Out, _: usize, words: Out, _: usize,
         keys: Out, _: usize) -> usize;
     fn dimetumble_hops(bound: usize, count: usize, directed: u8, marks: In, _: usize, from: In, _: usize, to: In, _: usize,
         costs: In, _: usize, listed: *mut usize, nodes: Out, _: usize, matrix: Out, _: usize, offsets: Out, _: usize,
@@ -36,11 +36,11 @@ extern "C" {
         costs: In, _: usize, source: usize, page: In, _: usize, yes: *mut u8) -> usize;
     fn dimetumble_dijkstra_path_impl(bound: usize, count: usize, directed: u8, marks: In, _: usize, from: In, _: usize, to: In, _: usize,
         bits: In, _: usize, opens: In, _: usize, source: usize, capped: u8, cutoff: f64, dist: Out, _: usize, preds: Out, _: usize,
-        offsets: Out, _: usize, heads: Out, _: usize, weights: Out, _: usize, heap: Out, _: usize, places: Out, _: usize,
+        offsets: Out, _: usize, heads: Out, _: usize, weights: Out, _: usize, peaks: Out, _: usize, words: Out, _: usize,
         keys: Out, _: usize) -> usize;
     fn dimetumble_dijkstra_path_f64(bound: usize, count: usize, directed: u8, marks: In, _: usize, from: In, _: usize, to: In, _: usize,
         bits: In, _: usize, opens: In, _: usize, source: usize, capped: u8, cutoff: f64, dist: Out, _: usize, preds: Out, _: usize,
-        offsets: Out, _: usize, heads: Out, _: usize, weights: Out, _: usize, heap: Out, _: usize, places: Out, _: usize,
+        offsets: Out, _: usize, heads: Out, _: usize, weights: Out, _: usize, peaks: Out, _: usize, words: Out, _: usize,
         keys: Out, _: usize) -> usize;
 }
 

@@ -90,14 +90,18 @@ write-path-write-path-requires : (t : ℕ) → write-path-lts.Need-write-path-re
 ) (write-path-at t) write-path.Post
 write-path-write-path-requires t c κs =
     let s = c .before .before .before .before .before in
-    let some = back-some (s .args .preds .now) (s .args .source) (s .args .left) (s .args .v) (s .pre .1 .1 .0) (c .before .before .if1 .left) in
-    (omega (arith, some, s .pre .0), (s .pre .1 .0, (back-next (s .args .preds .now) (s .args .source) (s .args .left) (s .args .v) (s .pre .1 .1 .0) (c .before .before .if1 .left), omega (arith, s .pre .1 .1 .1))))
+    let some = back-some (s .args .preds .now) (s .args .source) (s .args .left) (s .args .v) (s .pre .1 .1 .0) (c .before .before .if1 .left) in (
+      omega (arith, some, s .pre .0),
+      (s .pre .1 .0, (back-next (s .args .preds .now) (s .args .source) (s .args .left) (s .args .v) (s .pre .1 .1 .0) (c .before .before .if1 .left), omega (arith, s .pre .1 .1 .1))),
+    )
 
 write-path-cast-path-2 : (t : ℕ) → write-path-lts.Need-cast-path-2 (
   write-path-below t,
   write-path.Post,
 ) (write-path-at t) write-path.Post
-write-path-cast-path-2 t c = let s = c .before .before .before .before .before .before .before .before in omega (arith, back-in (s .args .preds .now) (s .args .source) (s .args .left) (s .args .v) (s .pre .1 .1 .0), s .pre .1 .0)
+write-path-cast-path-2 t c =
+    let s = c .before .before .before .before .before .before .before .before in
+    omega (arith, back-in (s .args .preds .now) (s .args .source) (s .args .left) (s .args .v) (s .pre .1 .1 .0), s .pre .1 .0)
 
 write-path-mul-path :
     (t : ℕ) →
@@ -145,14 +149,16 @@ write-path-returns-2 : (t : ℕ) → write-path-lts.Need-returns-2 (
   write-path.Post,
 ) (write-path-at t) write-path.Post
 write-path-returns-2 t c =
+    let at-if1 = c .before .before .before .before .before in
     let s = c .before .before .before .before .before .before .before .before in
     let w = c .before .before in
-    let some = back-some (s .args .preds .now) (s .args .source) (s .args .left) (s .args .v) (s .pre .1 .1 .0) (c .before .before .before .before .before .if1 .left) in
-    let e = trail-back (s .args .preds .now) (s .args .source) (s .args .left) (s .args .v) some (c .before .before .before .before .before .if1 .left) in
+    let some = back-some (s .args .preds .now) (s .args .source) (s .args .left) (s .args .v) (s .pre .1 .1 .0) (at-if1 .if1 .left) in
+    let e = trail-back (s .args .preds .now) (s .args .source) (s .args .left) (s .args .v) some (at-if1 .if1 .left) in
     let l = trail (s .args .preds .now) (s .args .source) (s .args .left - 1) (getD (s .args .preds .now) (s .args .v) 0) in (
       omega (arith, ap length e, length-append l (s .args .v ∷ []), w .write-path .ensures .0),
       (λ i. set (w .write-path .ensures .1 i) (w .write-path .ensures .0 i) (s .args .v))
-          ∙ front-more l (s .args .v) (s .args .path .now) (omega (arith, trail-long (s .args .preds .now) (s .args .source) (s .args .left - 1) (getD (s .args .preds .now) (s .args .v) 0), some, s .pre .1 .1 .1))
+          ∙ front-more l (s .args .v) (s .args .path .now)
+          (omega (arith, trail-long (s .args .preds .now) (s .args .source) (s .args .left - 1) (getD (s .args .preds .now) (s .args .v) 0), some, s .pre .1 .1 .1))
           ∙ ap (λ (x : List ℕ). atFront x (s .args .path .now)) (sym e),
     )
 

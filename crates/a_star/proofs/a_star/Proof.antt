@@ -2,8 +2,8 @@
 -- Assumes nothing.
 use mathlib.Core.Path.{sym, _∙_}
 use borrow.Author.Needs.{needs}
-use Rattle.a_star.specs.Promise.{ran}
 use Rattle.a_star.proofs.Refusals.{refused, passed}
+use Rattle.a_star.proofs.Settles.{ran}
 use Rattle.a_star.proofs.a_star.Statement.{statement}
 use Rattle.a_star.proofs.a_star.Tie as tie
 

@@ -26,11 +26,17 @@ slice-aggregate-write-path c =
 
 write-path-requires : tie.Need-write-path-requires
 write-path-requires c κs =
-    let l = c .before .before .before .before .before .before .before .blank-u32 in
+    let at-has-distance = c .before .before .before in
+    let at-if1 = at-has-distance .before in
+    let at-blank-u32 = at-if1 .before .before .before in
+    let l = at-blank-u32 .blank-u32 in
     let s = c .before .before .before .before .before .before .before .before .before .before .before in
     let w = s .pre in (
       omega (arith, length-take-le (s .args .m) (s .args .preds .now) (w .preds), w .bounded),
-      (w .back (c .before .before .before .before .if1 .left) (sym (c .before .before .before .has-distance .ensures) ∙ not-false _ (c .before .before .if2 .left)), left-fits (s .args .path .now) (l .last .0) (w .path) (w .target) (l .kept .0)),
+      (
+        w .back (at-if1 .if1 .left) (sym (at-has-distance .has-distance .ensures) ∙ not-false _ (c .before .before .if2 .left)),
+        left-fits (s .args .path .now) (l .last .0) (w .path) (w .target) (l .kept .0),
+      ),
     )
 
 returns-3 : tie.Need-returns-3
@@ -38,7 +44,8 @@ returns-3 c =
     let p = c .before .before .before in
     let h = p .before .before .before .before in
     let d = toZ-ofZ w64 (c .distance .result) (sfits-of (c .distance .ok)) ∙ c .distance .ensures in
-    found (h .before .if1 .left) (sym (h .has-distance .ensures) ∙ not-false _ (p .before .before .before .if2 .left)) (answer-is d (p .write-path .ensures .0)) (p .write-path .ensures .1 ∙ ap (atFront _) (h .before .before .before .before .blank-u32 .ensures))
+    found (h .before .if1 .left) (sym (h .has-distance .ensures) ∙ not-false _ (p .before .before .before .if2 .left)) (answer-is d (p .write-path .ensures .0))
+    (p .write-path .ensures .1 ∙ ap (atFront _) (h .before .before .before .before .blank-u32 .ensures))
 
 pub answer-spec : {M : Type 1} → statement M
 answer-spec =

@@ -6,11 +6,14 @@ use Rattle.a_star.proofs.seek.Statement.{statement}
 use Rattle.a_star.proofs.seek.Tie as tie
 
 position-csr-requires : tie.Need-position-csr-requires
-position-csr-requires c κs = (can-place (c .before .before .before .before .before .before .before .before .before .before .pre), place-room (c .before .before .before .before .before .before .before .before .before .before .pre))
+position-csr-requires c κs =
+    let start = c .before .before .before .before .before .before .before .before .before .before in
+    (can-place (start .pre), place-room (start .pre))
 
 run-requires : tie.Need-run-requires
 run-requires c κs =
-    let s = c .before .before .before .before .before .before .before .before .before .before .before .before .before .before .before .before .before .before .before .before .before .before .before .before in
+    let s =
+    c .before .before .before .before .before .before .before .before .before .before .before .before .before .before .before .before .before .before .before .before .before .before .before .before in
     let p = c .before .before .before .before .before .before .before .before .before .before .before .before .before in
     (fit (s .pre) (p .position-csr .ensures .0) (p .position-csr .ensures .1), search-room (s .pre))
 

@@ -10,31 +10,65 @@ seek-requires : tie.Need-seek-requires
 seek-requires c κs = can-seek (c .before .before .before .before .before .before .before .before .before .before .before .before .before .before .before .before .pre)
 
 answer-requires : tie.Need-answer-requires
-answer-requires c κs = told (c .before .before .before .before .before .before .before .before .before .before .before .before .before .before .before .before .before .before .before .before .before .before .before .before .before .before .before .before .before .before .before .before .before .pre) (c .before .before .before .before .before .before .before .before .before .before .before .before .before .before .before .before .seek .ensures)
+answer-requires c κs =
+    let at-seek = c .before .before .before .before .before .before .before .before .before .before .before .before .before .before .before .before in
+    let start = at-seek .before .before .before .before .before .before .before .before .before .before .before .before .before .before .before .before .before in
+    told (start .pre) (at-seek .seek .ensures)
 
-arc-room-requires : tie.Need-arc-room-requires
-arc-room-requires c κs = few-links (c .before .before .before .before .before .before .before .before .before .before .before .before .before .before .before .before .before .before .before .before .before .before .before .before .before .before .before .before .before .before .before .before .before .before .before .before .pre)
+most-arcs-requires : tie.Need-most-arcs-requires
+most-arcs-requires c κs =
+    let start = c .before .before .before .before .before .before .before .before .before .before .before .before .before .before .before .before .before .before .before .before .before .before
+    .before .before .before .before .before .before .before .before .before .before .before .before .before .before in
+    few-links (start .pre)
 
 wipe-requires : tie.Need-wipe-requires
-wipe-requires c κs = can-wipe (c .before .before .before .before .before .before .before .before .before .before .before .before .before .before .before .before .before .before .before .before .before .before .before .before .before .before .before .before .before .before .before .before .before .before .before .before .before .before .before .before .before .before .before .before .before .pre) (c .before .before .before .before .before .before .before .before .before .before .before .before .before .before .before .before .before .before .before .before .before .before .before .before .before .before .before .before .seek .ensures) (c .before .before .before .before .before .before .before .before .arc-room .ensures)
+wipe-requires c κs =
+    let at-most-arcs = c .before .before .before .before .before .before .before .before in
+    let at-seek = at-most-arcs .before .before .before .before .before .before .before .before .before .before .before .before .before .before .before .before .before .before .before .before in
+    let start = at-seek .before .before .before .before .before .before .before .before .before .before .before .before .before .before .before .before .before in
+    can-wipe (start .pre) (at-seek .seek .ensures) (at-most-arcs .most-arcs .ensures)
 
 same-length-2 : tie.Need-same-length-2
-same-length-2 c = c .before .before .before .before .before .before .before .before .before .before .before .before .before .wipe .kept .1 .1 .0 ∙ c .before .before .before .before .before .before .before .before .before .before .before .before .before .before .before .before .before .before .before .before .before .before .before .before .before .before .before .before .before .before .before .before .before .before .before .before .before .before .before .before .before .before .seek .kept .1 .1 .1 .1 .1 .1 .1 .0
+same-length-2 c =
+    let at-wipe = c .before .before .before .before .before .before .before .before .before .before .before .before .before in
+    let at-seek = at-wipe .before .before .before .before .before .before .before .before .before .before .before .before .before .before .before .before .before .before .before .before .before
+    .before .before .before .before .before .before .before .before in
+    at-wipe .wipe .kept .1 .1 .0 ∙ at-seek .seek .kept .1 .1 .1 .1 .1 .1 .1 .0
 
 same-length-3 : tie.Need-same-length-3
-same-length-3 c = c .before .before .before .before .before .before .before .before .before .before .before .before .before .wipe .kept .1 .1 .1 .0 ∙ c .before .before .before .before .before .before .before .before .before .before .before .before .before .before .before .before .before .before .before .before .before .before .before .before .before .before .before .before .before .before .before .before .before .before .before .before .before .before .before .before .before .before .seek .kept .1 .1 .1 .1 .1 .1 .1 .1 .0
+same-length-3 c =
+    let at-wipe = c .before .before .before .before .before .before .before .before .before .before .before .before .before in
+    let at-seek = at-wipe .before .before .before .before .before .before .before .before .before .before .before .before .before .before .before .before .before .before .before .before .before
+    .before .before .before .before .before .before .before .before in
+    at-wipe .wipe .kept .1 .1 .1 .0 ∙ at-seek .seek .kept .1 .1 .1 .1 .1 .1 .1 .1 .0
 
 same-length-4 : tie.Need-same-length-4
-same-length-4 c = c .before .before .before .before .before .before .before .before .before .before .before .before .before .wipe .kept .1 .1 .1 .1 .0 ∙ c .before .before .before .before .before .before .before .before .before .before .before .before .before .before .before .before .before .before .before .before .before .before .before .before .before .before .before .before .before .before .before .before .before .before .before .before .before .before .before .before .before .before .seek .kept .1 .1 .1 .1 .1 .1 .1 .1 .1 .0
+same-length-4 c =
+    let at-wipe = c .before .before .before .before .before .before .before .before .before .before .before .before .before in
+    let at-seek = at-wipe .before .before .before .before .before .before .before .before .before .before .before .before .before .before .before .before .before .before .before .before .before
+    .before .before .before .before .before .before .before .before in
+    at-wipe .wipe .kept .1 .1 .1 .1 .0 ∙ at-seek .seek .kept .1 .1 .1 .1 .1 .1 .1 .1 .1 .0
 
 same-length-5 : tie.Need-same-length-5
-same-length-5 c = c .before .before .before .before .before .before .before .before .before .before .before .before .before .wipe .kept .1 .1 .1 .1 .1 .0 ∙ c .before .before .before .before .before .before .before .before .before .before .before .before .before .before .before .before .before .before .before .before .before .before .before .before .before .before .before .before .before .before .before .before .before .before .before .before .before .before .before .before .before .before .seek .kept .1 .1 .1 .1 .1 .1 .1 .1 .1 .1 .0
+same-length-5 c =
+    let at-wipe = c .before .before .before .before .before .before .before .before .before .before .before .before .before in
+    let at-seek = at-wipe .before .before .before .before .before .before .before .before .before .before .before .before .before .before .before .before .before .before .before .before .before
+    .before .before .before .before .before .before .before .before in
+    at-wipe .wipe .kept .1 .1 .1 .1 .1 .0 ∙ at-seek .seek .kept .1 .1 .1 .1 .1 .1 .1 .1 .1 .1 .0
 
 same-length-6 : tie.Need-same-length-6
-same-length-6 c = c .before .before .before .before .before .before .before .before .before .before .before .before .before .wipe .kept .1 .1 .1 .1 .1 .1 .0 ∙ c .before .before .before .before .before .before .before .before .before .before .before .before .before .before .before .before .before .before .before .before .before .before .before .before .before .before .before .before .before .before .before .before .before .before .before .before .before .before .before .before .before .before .seek .kept .1 .1 .1 .1 .1 .1 .1 .1 .1 .1 .1 .0
+same-length-6 c =
+    let at-wipe = c .before .before .before .before .before .before .before .before .before .before .before .before .before in
+    let at-seek = at-wipe .before .before .before .before .before .before .before .before .before .before .before .before .before .before .before .before .before .before .before .before .before
+    .before .before .before .before .before .before .before .before in
+    at-wipe .wipe .kept .1 .1 .1 .1 .1 .1 .0 ∙ at-seek .seek .kept .1 .1 .1 .1 .1 .1 .1 .1 .1 .1 .1 .0
 
 same-length-7 : tie.Need-same-length-7
-same-length-7 c = c .before .before .before .before .before .before .before .before .before .before .before .before .before .wipe .kept .1 .1 .1 .1 .1 .1 .1 .0 ∙ c .before .before .before .before .before .before .before .before .before .before .before .before .before .before .before .before .before .before .before .before .before .before .before .before .before .before .before .before .before .before .before .before .before .before .before .before .before .before .before .before .before .before .seek .kept .1 .1 .1 .1 .1 .1 .1 .1 .1 .1 .1 .1 .0
+same-length-7 c =
+    let at-wipe = c .before .before .before .before .before .before .before .before .before .before .before .before .before in
+    let at-seek = at-wipe .before .before .before .before .before .before .before .before .before .before .before .before .before .before .before .before .before .before .before .before .before
+    .before .before .before .before .before .before .before .before in
+    at-wipe .wipe .kept .1 .1 .1 .1 .1 .1 .1 .0 ∙ at-seek .seek .kept .1 .1 .1 .1 .1 .1 .1 .1 .1 .1 .1 .1 .0
 
 returns : tie.Need-returns
 returns c =
@@ -43,7 +77,7 @@ returns c =
     let y = n .before .before .before in
     let z = y .before .before .before .before .before .before .before .before .before .before .before .before .before .before .before .before .before in
     let s = z .before .before .before .before .before .before .before .before .before .before .before .before .before .before .before .before .before in
-    outcome (s .pre) (z .seek .ensures) (y .answer .ensures) (n .arc-room .ensures) (a .wipe .ensures)
+    outcome (s .pre) (z .seek .ensures) (y .answer .ensures) (n .most-arcs .ensures) (a .wipe .ensures)
 
 pub solve-spec : {M : Type 1} → statement M
 solve-spec =
@@ -51,7 +85,7 @@ solve-spec =
     (tie.spec
     seek-requires
     answer-requires
-    arc-room-requires
+    most-arcs-requires
     wipe-requires
     (λ c. search needs)
     same-length-2

@@ -5,7 +5,10 @@ use Rattle.a_star.proofs.wipe.Statement.{statement}
 use Rattle.a_star.proofs.wipe.Tie as tie
 
 returns : tie.Need-returns
-returns c = λ i. record { rows = c .before .before .before .before .before .before .before .before .before .before .before .before .before .before .before .before .before .before .before .wipe .ensures i; memory = c .before .before .before .before .before .before .before .before .wipe-memory .ensures i }
+returns c =
+    let at-wipe-memory = c .before .before .before .before .before .before .before .before in
+    let at-wipe = at-wipe-memory .before .before .before .before .before .before .before .before .before .before .before in
+    λ i. record { rows = at-wipe .wipe .ensures i; memory = at-wipe-memory .wipe-memory .ensures i }
 
 pub wipe-spec : {M : Type 1} → statement M
 wipe-spec =

@@ -12,8 +12,10 @@ use mir.Syntax.{w64}
 
 say-path-requires : tie.Need-say-path-requires
 say-path-requires c κs =
-    let l = path-fits (c .before .before .before .before .before .before .before .before .before .before .before .before .a-star .ensures) in
-    (omega (arith, l, c .before .before .before .before .before .before .before .before .before .before .before .before .a-star .kept), l, c .before .before .before .before .before .before .before .before .before .before .before .before .before .before .before .before .before .before .before .before .before .before .before .before .before .before .before .pre .room)
+    let at-a-star = c .before .before .before .before .before .before .before .before .before .before .before .before in
+    let start = at-a-star .before .before .before .before .before .before .before .before .before .before .before .before .before .before .before in
+    let l = path-fits (at-a-star .a-star .ensures) in
+    (omega (arith, l, at-a-star .a-star .kept), l, start .pre .room)
 
 returns : tie.Need-returns
 returns c =

@@ -7,8 +7,9 @@ use mathlib.Core.Path.{refl}
 
 returns : tie.Need-returns
 returns c =
+    let at-bellman-ford = c .before .before .before .before .before .before .before .before .before .before .before .before in
     let p = c .before .before .say-distances .ensures in
-    (record { text = _; allowed = record { number = _; left = _; promise = c .before .before .before .before .before .before .before .before .before .before .before .before .bellman-ford .ensures; says = refl }; printed = p .0 }, p .1)
+    (record { text = _; allowed = record { number = _; left = _; promise = at-bellman-ford .bellman-ford .ensures; says = refl }; printed = p .0 }, p .1)
 
 pub answer-bellman-ford-spec : {M : Type 1} → statement M
 answer-bellman-ford-spec =

@@ -7,8 +7,9 @@ use mathlib.Core.Path.{refl}
 
 returns : tie.Need-returns
 returns c =
+    let at-floyd-warshall = c .before .before .before .before .before .before .before in
     let p = c .before .before .say-rows .ensures in
-    (record { text = _; allowed = record { number = _; left = (_, _); promise = c .before .before .before .before .before .before .before .floyd-warshall .ensures; says = refl }; printed = p .0 }, p .1)
+    (record { text = _; allowed = record { number = _; left = (_, _); promise = at-floyd-warshall .floyd-warshall .ensures; says = refl }; printed = p .0 }, p .1)
 
 pub answer-floyd-warshall-spec : {M : Type 1} → statement M
 answer-floyd-warshall-spec =

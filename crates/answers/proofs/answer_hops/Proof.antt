@@ -7,8 +7,9 @@ use mathlib.Core.Path.{refl}
 
 returns : tie.Need-returns
 returns c =
+    let at-hops = c .before .before .before .before .before .before .before .before .before .before .before in
     let p = c .before .before .say-hops .ensures in
-    (record { text = _; allowed = record { number = _; left = (_, _); promise = c .before .before .before .before .before .before .before .before .before .before .before .hops .ensures; says = refl }; printed = p .0 }, p .1)
+    (record { text = _; allowed = record { number = _; left = (_, _); promise = at-hops .hops .ensures; says = refl }; printed = p .0 }, p .1)
 
 pub answer-hops-spec : {M : Type 1} → statement M
 answer-hops-spec =

@@ -15,8 +15,11 @@ returns c =
 
 returns-2 : tie.Need-returns-2
 returns-2 c =
-    let v = c .before .before .before .before .before .before .before .args in
-    given (distanceLines (present (v .bound) (v .marks .now)) (v .bound) (v .dist .now)) (c .before .before .before .before .if1 .left) (distances-short (present (v .bound) (v .marks .now)) (v .bound) (v .dist .now) (c .before .before .before .before .before .before .before .pre .0)) (c .before .before .print-distances .ensures)
+    let at-if1 = c .before .before .before .before in
+    let start = at-if1 .before .before .before in
+    let v = start .args in
+    given (distanceLines (present (v .bound) (v .marks .now)) (v .bound) (v .dist .now)) (at-if1 .if1 .left)
+    (distances-short (present (v .bound) (v .marks .now)) (v .bound) (v .dist .now) (start .pre .0)) (c .before .before .print-distances .ensures)
 
 pub say-distances-spec : {M : Type 1} → statement M
 say-distances-spec =

@@ -16,9 +16,11 @@ returns c =
 
 returns-2 : tie.Need-returns-2
 returns-2 c =
+    let at-if1 = c .before .before .before .before in
     let z = c .before .before .before .before .before .before .before in
     let v = z .args in
-    given (pathLines (v .cost) (v .n) (v .path .now)) (c .before .before .before .before .if1 .left) (path-short (v .cost) (v .n) (v .path .now) (z .pre .0)) (rw (toZ-ofZ w64 (v .cost) (z .fits .cost)) at (c .before .before .print-path .ensures))
+    given (pathLines (v .cost) (v .n) (v .path .now)) (at-if1 .if1 .left) (path-short (v .cost) (v .n) (v .path .now) (z .pre .0))
+    (rw (toZ-ofZ w64 (v .cost) (z .fits .cost)) at (c .before .before .print-path .ensures))
 
 pub say-path-spec : {M : Type 1} → statement M
 say-path-spec =

@@ -17,16 +17,20 @@ returns c =
 
 print-rows-requires : tie.Need-print-rows-requires
 print-rows-requires c κs =
-    let v = c .before .before .before .before .args in
+    let start = c .before .before .before .before in
+    let v = start .args in
     let has = present (v .bound) (v .marks .now) in
-    let few = c .before .before .before .before .pre .0 in
-    (c .before .before .before .before .pre .1, omega (arith, square-fits has (v .bound) few, c .before .before .before .before .pre .2), omega (arith, rows-fit has (v .bound) few 21 (omega arith), c .before .before .before .before .pre .3))
+    let few = start .pre .0 in
+    (start .pre .1, omega (arith, square-fits has (v .bound) few, start .pre .2), omega (arith, rows-fit has (v .bound) few 21 (omega arith), start .pre .3))
 
 returns-2 : tie.Need-returns-2
 returns-2 c =
-    let v = c .before .before .before .before .before .before .before .args in
+    let at-if1 = c .before .before .before .before in
+    let start = at-if1 .before .before .before in
+    let v = start .args in
     let has = present (v .bound) (v .marks .now) in
-    given (rowLines distanceText has (v .bound) (v .matrix .now)) (c .before .before .before .before .if1 .left) (rows-short has (v .bound) (c .before .before .before .before .before .before .before .pre .0) distanceText 21 distance-width (omega arith) (v .matrix .now)) (c .before .before .print-rows .ensures)
+    given (rowLines distanceText has (v .bound) (v .matrix .now)) (at-if1 .if1 .left) (rows-short has (v .bound) (start .pre .0) distanceText 21 distance-width (omega arith) (v .matrix .now))
+    (c .before .before .print-rows .ensures)
 
 pub say-rows-spec : {M : Type 1} → statement M
 say-rows-spec =

@@ -21,8 +21,11 @@ print-tree-requires c κs =
 
 returns-2 : tie.Need-returns-2
 returns-2 c =
-    let v = c .before .before .before .before .before .before .before .before .before .args in
-    given (treeLines (present (v .bound) (v .marks .now)) (v .bound) (v .dist .now) (v .preds .now)) (c .before .before .before .before .if1 .left) (tree-short (present (v .bound) (v .marks .now)) (v .bound) (v .dist .now) (v .preds .now) (c .before .before .before .before .before .before .before .before .before .pre .0)) (c .before .before .print-tree .ensures)
+    let at-if1 = c .before .before .before .before in
+    let start = at-if1 .before .before .before .before .before in
+    let v = start .args in
+    given (treeLines (present (v .bound) (v .marks .now)) (v .bound) (v .dist .now) (v .preds .now)) (at-if1 .if1 .left)
+    (tree-short (present (v .bound) (v .marks .now)) (v .bound) (v .dist .now) (v .preds .now) (start .pre .0)) (c .before .before .print-tree .ensures)
 
 pub say-tree-spec : {M : Type 1} → statement M
 say-tree-spec =

@@ -17,10 +17,12 @@ use Rattle.bellman_ford.proofs.Settles.{promise-kept}
 returns : tie.Need-returns
 returns c = refused _ _ _ _ (c .before .refusal .ensures) (c .if1 .taken)
 
-arc-room-requires : tie.Need-arc-room-requires
-arc-room-requires c κs =
-    let v = c .before .before .before .before .before .before .before .before .before .before .before .before .before .before .before .before .before .args in
-    whole-ints (v .map .bound) (v .map .count) (v .map .directed) (v .marks .now) (v .from .now) (v .to .now) (v .costs .now) (passed _ _ (sym (c .before .refusal .ensures) ∙ c .if1 .left) .whole) .links
+most-arcs-requires : tie.Need-most-arcs-requires
+most-arcs-requires c κs =
+    let start = c .before .before .before .before .before .before .before .before .before .before .before .before .before .before .before .before .before in
+    let v = start .args in
+    whole-ints (v .map .bound) (v .map .count) (v .map .directed) (v .marks .now) (v .from .now) (v .to .now) (v .costs .now)
+    (passed _ _ (sym (c .before .refusal .ensures) ∙ c .if1 .left) .whole) .links
 
 blank-i64-requires : tie.Need-blank-i64-requires
 blank-i64-requires c κs = passed _ _ (sym (c .before .before .before .refusal .ensures) ∙ c .before .before .if1 .left) .dist
@@ -32,13 +34,15 @@ wipe-requires : tie.Need-wipe-requires
 wipe-requires c κs =
     let t = c .before .before .before .before .before .before in
     let e = t .before .before .before .before .before .before in
-    room-first (passed _ _ (sym (e .before .refusal .ensures) ∙ e .if1 .left)) (t .before .before .before .before .before .arc-room .ensures)
+    room-first (passed _ _ (sym (e .before .refusal .ensures) ∙ e .if1 .left)) (t .before .before .before .before .before .most-arcs .ensures)
 
 returns-2 : tie.Need-returns-2
 returns-2 c =
+    let at-wipe = c .before .before .before .before .before .before .before .before .before .before .before in
     let t = c .before .before .before .before .before .before .before .before .before .before .before .before .before .before .before .before .before .before in
     let e = t .before .before .before .before .before .before in
-    answer-unknown (passed _ _ (sym (e .before .refusal .ensures) ∙ e .if1 .left)) (t .before .before .before .before .before .arc-room .ensures) (sym (t .before .has-index .ensures) ∙ not-true _ (t .if2 .taken)) (t .before .before .before .blank-i64 .ensures) (c .before .before .before .before .before .before .before .before .before .before .before .wipe .ensures)
+    answer-unknown (passed _ _ (sym (e .before .refusal .ensures) ∙ e .if1 .left)) (t .before .before .before .before .before .most-arcs .ensures)
+    (sym (t .before .has-index .ensures) ∙ not-true _ (t .if2 .taken)) (t .before .before .before .blank-i64 .ensures) (at-wipe .wipe .ensures)
 
 prepare-requires : tie.Need-prepare-requires
 prepare-requires c κs =
@@ -50,41 +54,73 @@ solve-requires : tie.Need-solve-requires
 solve-requires c κs =
     let p = c .before .before .before .before .before .before .before .before .before .before .before in
     let e = p .before .before .before .before .before .before .before .before .before in
-    let v = p .before .before .before .before .before .before .before .before .before .before .before .before .before .before .before .before .before .before .before .before .before .before .before .before .before .before .args in
+    let v = p .before .before .before .before .before .before .before .before .before .before .before .before .before .before .before .before .before .before .before .before .before .before .before
+    .before .before .before .args in
     let h = p .before .before .before in
-    ripe (passed _ _ (sym (e .before .refusal .ensures) ∙ e .if1 .left)) (p .before .before .before .before .before .before .before .before .arc-room .ensures) (p .before .before .before .before .before .before .blank-i64 .ensures) (λ i. record { rows = listsOf (v .offsets .now) (v .heads .now) (v .weights .now); queue = v .queue .now; queued = p .prepare .ensures .0 i; lengths = p .prepare .ensures .1 i }) (sym (h .before .has-index .ensures) ∙ not-false _ (h .if2 .left))
+    ripe (passed _ _ (sym (e .before .refusal .ensures) ∙ e .if1 .left)) (p .before .before .before .before .before .before .before .before .most-arcs .ensures)
+    (p .before .before .before .before .before .before .blank-i64 .ensures)
+    (λ i. record { rows = listsOf (v .offsets .now) (v .heads .now) (v .weights .now); queue = v .queue .now; queued = p .prepare .ensures .0 i; lengths = p .prepare .ensures .1 i })
+    (sym (h .before .has-index .ensures) ∙ not-false _ (h .if2 .left))
 
 wipe-requires-2 : tie.Need-wipe-requires-2
 wipe-requires-2 c κs =
-    let p = c .before .before .before .before .before .before .before .before .before .before .before .before .before .before .before .before .before .before .before .before .before .before .before .before .before .before .before .before .before .before in
+    let at-solve = c .before .before .before .before .before .before .before .before .before .before .before .before .before .before .before .before .before .before in
+    let p = c .before .before .before .before .before .before .before .before .before .before .before .before .before .before .before .before .before .before .before .before .before .before .before
+    .before .before .before .before .before .before .before in
     let e = p .before .before .before .before .before .before .before .before .before in
-    let v = p .before .before .before .before .before .before .before .before .before .before .before .before .before .before .before .before .before .before .before .before .before .before .before .before .before .before .args in
+    let v = p .before .before .before .before .before .before .before .before .before .before .before .before .before .before .before .before .before .before .before .before .before .before .before
+    .before .before .before .args in
     let h = p .before .before .before in
-    room-second (passed _ _ (sym (e .before .refusal .ensures) ∙ e .if1 .left)) (p .before .before .before .before .before .before .before .before .arc-room .ensures) (p .before .before .before .before .before .before .blank-i64 .ensures) (λ i. record { rows = listsOf (v .offsets .now) (v .heads .now) (v .weights .now); queue = v .queue .now; queued = p .prepare .ensures .0 i; lengths = p .prepare .ensures .1 i }) (sym (h .before .has-index .ensures) ∙ not-false _ (h .if2 .left)) (c .before .before .before .before .before .before .before .before .before .before .before .before .before .before .before .before .before .before .solve .ensures)
+    room-second (passed _ _ (sym (e .before .refusal .ensures) ∙ e .if1 .left)) (p .before .before .before .before .before .before .before .before .most-arcs .ensures)
+    (p .before .before .before .before .before .before .blank-i64 .ensures)
+    (λ i. record { rows = listsOf (v .offsets .now) (v .heads .now) (v .weights .now); queue = v .queue .now; queued = p .prepare .ensures .0 i; lengths = p .prepare .ensures .1 i })
+    (sym (h .before .has-index .ensures) ∙ not-false _ (h .if2 .left)) (at-solve .solve .ensures)
 
 blank-i64-requires-2 : tie.Need-blank-i64-requires-2
 blank-i64-requires-2 c κs =
-    let p = c .before .before .before .before .before .before .before .before .before .before .before .before .before .before .before .before .before .before .before .before .before .before .before .before .before .before .before .before .before .before .before .before .before .before .before .before .before .before .before .before .before .before .before .before in
+    let at-solve = c .before .before .before .before .before .before .before .before .before .before .before .before .before .before .before .before .before .before .before .before .before .before
+    .before .before .before .before .before .before .before .before .before .before in
+    let p = c .before .before .before .before .before .before .before .before .before .before .before .before .before .before .before .before .before .before .before .before .before .before .before
+    .before .before .before .before .before .before .before .before .before .before .before .before .before .before .before .before .before .before .before .before .before in
     let e = p .before .before .before .before .before .before .before .before .before in
-    let v = p .before .before .before .before .before .before .before .before .before .before .before .before .before .before .before .before .before .before .before .before .before .before .before .before .before .before .args in
+    let v = p .before .before .before .before .before .before .before .before .before .before .before .before .before .before .before .before .before .before .before .before .before .before .before
+    .before .before .before .args in
     let h = p .before .before .before in
-    dist-room (passed _ _ (sym (e .before .refusal .ensures) ∙ e .if1 .left)) (p .before .before .before .before .before .before .before .before .arc-room .ensures) (p .before .before .before .before .before .before .blank-i64 .ensures) (λ i. record { rows = listsOf (v .offsets .now) (v .heads .now) (v .weights .now); queue = v .queue .now; queued = p .prepare .ensures .0 i; lengths = p .prepare .ensures .1 i }) (sym (h .before .has-index .ensures) ∙ not-false _ (h .if2 .left)) (c .before .before .before .before .before .before .before .before .before .before .before .before .before .before .before .before .before .before .before .before .before .before .before .before .before .before .before .before .before .before .before .before .solve .ensures)
+    dist-room (passed _ _ (sym (e .before .refusal .ensures) ∙ e .if1 .left)) (p .before .before .before .before .before .before .before .before .most-arcs .ensures)
+    (p .before .before .before .before .before .before .blank-i64 .ensures)
+    (λ i. record { rows = listsOf (v .offsets .now) (v .heads .now) (v .weights .now); queue = v .queue .now; queued = p .prepare .ensures .0 i; lengths = p .prepare .ensures .1 i })
+    (sym (h .before .has-index .ensures) ∙ not-false _ (h .if2 .left)) (at-solve .solve .ensures)
 
 returns-3 : tie.Need-returns-3
 returns-3 c =
-    let p = c .before .before .before .before .before .before .before .before .before .before .before .before .before .before .before .before .before .before .before .before .before .before .before .before .before .before .before .before .before .before .before .before .before .before .before .before .before .before .before .before .before .before .before .before .before .before in
+    let at-if3 = c .before .before .before in
+    let at-wipe2 = at-if3 .before .before .before .before .before .before .before .before .before .before .before .before in
+    let at-solve = at-wipe2 .before .before .before .before .before .before .before .before .before .before .before .before .before .before .before .before .before .before .before in
+    let p = c .before .before .before .before .before .before .before .before .before .before .before .before .before .before .before .before .before .before .before .before .before .before .before
+    .before .before .before .before .before .before .before .before .before .before .before .before .before .before .before .before .before .before .before .before .before .before .before in
     let e = p .before .before .before .before .before .before .before .before .before in
-    let v = p .before .before .before .before .before .before .before .before .before .before .before .before .before .before .before .before .before .before .before .before .before .before .before .before .before .before .args in
+    let v = p .before .before .before .before .before .before .before .before .before .before .before .before .before .before .before .before .before .before .before .before .before .before .before
+    .before .before .before .args in
     let h = p .before .before .before in
-    answer-negative (passed _ _ (sym (e .before .refusal .ensures) ∙ e .if1 .left)) (p .before .before .before .before .before .before .before .before .arc-room .ensures) (p .before .before .before .before .before .before .blank-i64 .ensures) (λ i. record { rows = listsOf (v .offsets .now) (v .heads .now) (v .weights .now); queue = v .queue .now; queued = p .prepare .ensures .0 i; lengths = p .prepare .ensures .1 i }) (sym (h .before .has-index .ensures) ∙ not-false _ (h .if2 .left)) (c .before .before .before .before .before .before .before .before .before .before .before .before .before .before .before .before .before .before .before .before .before .before .before .before .before .before .before .before .before .before .before .before .before .before .solve .ensures) (c .before .before .before .before .before .before .before .before .before .before .before .before .before .before .before .wipe2 .ensures) (c .before .before .before .if3 .taken) (c .before .blank-i642 .ensures)
+    answer-negative (passed _ _ (sym (e .before .refusal .ensures) ∙ e .if1 .left)) (p .before .before .before .before .before .before .before .before .most-arcs .ensures)
+    (p .before .before .before .before .before .before .blank-i64 .ensures)
+    (λ i. record { rows = listsOf (v .offsets .now) (v .heads .now) (v .weights .now); queue = v .queue .now; queued = p .prepare .ensures .0 i; lengths = p .prepare .ensures .1 i })
+    (sym (h .before .has-index .ensures) ∙ not-false _ (h .if2 .left)) (at-solve .solve .ensures) (at-wipe2 .wipe2 .ensures) (at-if3 .if3 .taken) (c .before .blank-i642 .ensures)
 
 returns-4 : tie.Need-returns-4
 returns-4 c =
-    let p = c .before .before .before .before .before .before .before .before .before .before .before .before .before .before .before .before .before .before .before .before .before .before .before .before .before .before .before .before .before .before .before .before .before .before .before .before .before .before .before .before .before .before .before in
+    let at-wipe2 = c .before .before .before .before .before .before .before .before .before .before .before .before in
+    let at-solve = at-wipe2 .before .before .before .before .before .before .before .before .before .before .before .before .before .before .before .before .before .before .before in
+    let p = c .before .before .before .before .before .before .before .before .before .before .before .before .before .before .before .before .before .before .before .before .before .before .before
+    .before .before .before .before .before .before .before .before .before .before .before .before .before .before .before .before .before .before .before .before in
     let e = p .before .before .before .before .before .before .before .before .before in
-    let v = p .before .before .before .before .before .before .before .before .before .before .before .before .before .before .before .before .before .before .before .before .before .before .before .before .before .before .args in
+    let v = p .before .before .before .before .before .before .before .before .before .before .before .before .before .before .before .before .before .before .before .before .before .before .before
+    .before .before .before .args in
     let h = p .before .before .before in
-    answer-done (passed _ _ (sym (e .before .refusal .ensures) ∙ e .if1 .left)) (p .before .before .before .before .before .before .before .before .arc-room .ensures) (p .before .before .before .before .before .before .blank-i64 .ensures) (λ i. record { rows = listsOf (v .offsets .now) (v .heads .now) (v .weights .now); queue = v .queue .now; queued = p .prepare .ensures .0 i; lengths = p .prepare .ensures .1 i }) (sym (h .before .has-index .ensures) ∙ not-false _ (h .if2 .left)) (c .before .before .before .before .before .before .before .before .before .before .before .before .before .before .before .before .before .before .before .before .before .before .before .before .before .before .before .before .before .before .before .solve .ensures) (c .before .before .before .before .before .before .before .before .before .before .before .before .wipe2 .ensures) (c .if3 .left)
+    answer-done (passed _ _ (sym (e .before .refusal .ensures) ∙ e .if1 .left)) (p .before .before .before .before .before .before .before .before .most-arcs .ensures)
+    (p .before .before .before .before .before .before .blank-i64 .ensures)
+    (λ i. record { rows = listsOf (v .offsets .now) (v .heads .now) (v .weights .now); queue = v .queue .now; queued = p .prepare .ensures .0 i; lengths = p .prepare .ensures .1 i })
+    (sym (h .before .has-index .ensures) ∙ not-false _ (h .if2 .left)) (at-solve .solve .ensures) (at-wipe2 .wipe2 .ensures) (c .if3 .left)
 
 pub bellman-ford-spec : {M : Type 1} → statement M
 bellman-ford-spec =
@@ -99,7 +135,7 @@ bellman-ford-spec =
     (λ c. search needs)
     (λ c. search needs)
     returns
-    arc-room-requires
+    most-arcs-requires
     blank-i64-requires
     has-index-requires
     wipe-requires

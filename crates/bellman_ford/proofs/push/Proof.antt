@@ -60,7 +60,10 @@ same-length-4 : tie.Need-same-length-4
 same-length-4 c = search needs
 
 returns-3 : tie.Need-returns-3
-returns-3 c = let s = c .before .before .before .before .before .before in waiting (omega (arith, c .before .before .before .if1 .left)) (c .if2 .left) refl (ap (λ (k : ℕ). set (s .args .queue .now) k (s .args .v)) (c .before .slot .ensures)) refl
+returns-3 c =
+    let at-if1 = c .before .before .before in
+    let s = c .before .before .before .before .before .before in
+    waiting (omega (arith, at-if1 .if1 .left)) (c .if2 .left) refl (ap (λ (k : ℕ). set (s .args .queue .now) k (s .args .v)) (c .before .slot .ensures)) refl
 
 pub push-spec : {M : Type 1} → statement M
 push-spec =

@@ -21,12 +21,20 @@ use Rattle.whole.proofs.Signed.{near, sum-is, read-at}
 use Rattle.bellman_ford.specs.Search.{kept, long, stored}
 
 -- what the sum and the test gave, of the numbers themselves
-module _ (c : lts.After-better (plus-reads.Asked, plus-reads.Learnt, better-reads.Asked, better-reads.Learnt, store-reads.Asked, store-reads.Learnt, push-reads.Asked, push-reads.Learnt) reads.Pre reads.Post) where
+module _
+    (c : lts.After-better (plus-reads.Asked, plus-reads.Learnt, better-reads.Asked, better-reads.Learnt, store-reads.Asked, store-reads.Learnt, push-reads.Asked, push-reads.Learnt) reads.Pre
+    reads.Post) where
   n-is : toZ w64 (ofZ w64 (c .before .before .plus .result)) ≡ c .before .before .before .before .before .before .args .d ⊕ c .before .before .before .before .before .before .args .cost
-  n-is = sum-is (c .before .before .before .before .before .before .fits .d) (c .before .before .before .before .before .before .fits .cost) (c .before .before .plus .ensures) (sfits-of (c .before .before .plus .ok))
+  n-is =
+      sum-is (c .before .before .before .before .before .before .fits .d) (c .before .before .before .before .before .before .fits .cost) (c .before .before .plus .ensures)
+      (sfits-of (c .before .before .plus .ok))
 
-  better-gave : c .better .result ≡ betterThan (c .before .before .before .before .before .before .args .d ⊕ c .before .before .before .before .before .before .args .cost) (getD (c .before .before .before .before .before .before .args .dist .now) (c .before .before .before .before .before .before .args .v) (pos 0))
-  better-gave = c .better .ensures ∙ (λ i. betterThan (n-is i) (read-at (c .before .before .before .before .before .before .args .dist .now) (c .before .before .before .before .before .before .args .v) (c .before .better-arg .given) i))
+  better-gave : c .better .result ≡ betterThan (c .before .before .before .before .before .before .args .d ⊕ c .before .before .before .before .before .before .args .cost)
+      (getD (c .before .before .before .before .before .before .args .dist .now) (c .before .before .before .before .before .before .args .v) (pos 0))
+  better-gave =
+      c .better .ensures
+      ∙ (λ i.
+      betterThan (n-is i) (read-at (c .before .before .before .before .before .before .args .dist .now) (c .before .before .before .before .before .before .args .v) (c .before .better-arg .given) i))
 
 plus-requires : tie.Need-plus-requires
 plus-requires c κs = near (c .before .before .before .fits .d) (c .before .before .before .fits .cost) (c .before .before .before .pre .label) (c .before .before .before .pre .cost)
@@ -39,11 +47,16 @@ returns-2 c = long (sym (better-gave (c .before .before)) ∙ not-false _ (c .be
 
 returns-3 : tie.Need-returns-3
 returns-3 c =
+    let at-push = c .before .before .before .before in
+    let at-store = at-push .before .before .before .before in
+    let at-if2 = at-store .before .before in
+    let at-if1 = at-if2 .before in
+    let start = at-if1 .before .before .before .before .before .before .before in
     let b = c .before .before .before .before .before .before .before .before .before .before .before .before in
-    stored (sym (better-gave b) ∙ not-false _ (c .before .before .before .before .before .before .before .before .before .before .before .if1 .left)) (c .before .before .before .before .before .before .before .before .before .before .if2 .left) refl
-    (c .before .before .before .before .before .before .before .before .store .ensures ∙ ap (set (c .before .before .before .before .before .before .before .before .before .before .before .before .before .before .before .before .before .before .args .dist .now) (c .before .before .before .before .before .before .before .before .before .before .before .before .before .before .before .before .before .before .args .v)) (n-is b))
+    stored (sym (better-gave b) ∙ not-false _ (at-if1 .if1 .left)) (at-if2 .if2 .left) refl
+    (at-store .store .ensures ∙ ap (set (start .args .dist .now) (start .args .v)) (n-is b))
     refl
-    (c .before .before .before .before .push .ensures)
+    (at-push .push .ensures)
 
 pub relax-arc-spec : {M : Type 1} → statement M
 relax-arc-spec =

@@ -18,7 +18,8 @@ use Rattle.bellman_ford.proofs.Arc.{safe}
 use Rattle.bellman_ford.proofs.Row.{Row, row-first, row-next, row-stops, row-ends, safe-at, relaxed-at}
 
 abbrev Inv-loop : tie.InvT-loop
-Inv-loop m p source u head waiting offsets heads weights dist₀ queue₀ queued₀ lengths₀ d k end size₀ i₀ dist queue queued lengths size i = Row m p source (listsOf offsets heads weights) u (toZ w64 d) k i head waiting size (memoryOf dist₀ queue₀ queued₀ lengths₀) (memoryOf dist queue queued lengths)
+Inv-loop m p source u head waiting offsets heads weights dist₀ queue₀ queued₀ lengths₀ d k end size₀ i₀ dist queue queued lengths size i =
+    Row m p source (listsOf offsets heads weights) u (toZ w64 d) k i head waiting size (memoryOf dist₀ queue₀ queued₀ lengths₀) (memoryOf dist queue queued lengths)
 
 abbrev μ-loop : tie.MeasureT-loop
 μ-loop m p source u head waiting offsets heads weights dist₀ queue₀ queued₀ lengths₀ d k end size₀ i₀ dist queue queued lengths size i = end - i
@@ -26,10 +27,18 @@ abbrev μ-loop : tie.MeasureT-loop
 -- a place of the row is a place of the neighbour list
 module _ (c : lts.In-loop (relax-arc-reads.Asked, relax-arc-reads.Learnt) reads.Pre reads.Post Inv-loop μ-loop) where
   in-heads : c .before .loop .i < length (c .before .before .before .before .before .before .before .before .before .before .before .args .heads .now)
-  in-heads = omega (arith, c .before .before .before .before .before .before .before .before .before .before .before .pre .0 .sound .heads (c .before .before .before .before .before .before .before .before .before .before .before .args .u) (c .before .loop .inv .state .index))
+  in-heads = omega (
+    arith,
+    c .before .before .before .before .before .before .before .before .before .before .before .pre .0 .sound .heads
+        (c .before .before .before .before .before .before .before .before .before .before .before .args .u) (c .before .loop .inv .state .index),
+  )
 
   in-weights : c .before .loop .i < length (c .before .before .before .before .before .before .before .before .before .before .before .args .weights .now)
-  in-weights = omega (arith, c .before .before .before .before .before .before .before .before .before .before .before .pre .0 .sound .weights (c .before .before .before .before .before .before .before .before .before .before .before .args .u) (c .before .loop .inv .state .index))
+  in-weights = omega (
+    arith,
+    c .before .before .before .before .before .before .before .before .before .before .before .pre .0 .sound .weights
+        (c .before .before .before .before .before .before .before .before .before .before .before .args .u) (c .before .loop .inv .state .index),
+  )
 
 loop-holds : tie.Need-loop-holds Inv-loop μ-loop
 loop-holds c = row-first (toZ-ofZ w64 _ (sfits-of (c .before .before .before .d .given))) (c .before .before .before .before .before .before .before .before .before .pre .1)
@@ -50,16 +59,39 @@ shared-slice-copy-out-relax-arc : tie.Need-shared-slice-copy-out-relax-arc Inv-l
 shared-slice-copy-out-relax-arc c = in-weights (c .before)
 
 relax-arc-requires : tie.Need-relax-arc-requires Inv-loop μ-loop
-relax-arc-requires c κs = safe-at (toZ-ofZ w64 _ (sfits-of (c .before .before .before .before .relax-arc-arg .given))) (safe (c .before .before .before .before .before .before .before .before .before .before .before .before .before .before .before .before .before .pre .0) (c .before .before .before .before .before .before .before .loop .inv .state) (c .before .before .before .before .before .before .loop-test .taken))
+relax-arc-requires c κs =
+    let at-relax-arc-arg = c .before .before .before .before in
+    let at-loop-test = at-relax-arc-arg .before .before in
+    let at-loop = at-loop-test .before in
+    let start = at-loop .before .before .before .before .before .before .before .before .before .before in
+    safe-at (toZ-ofZ w64 _ (sfits-of (at-relax-arc-arg .relax-arc-arg .given))) (safe (start .pre .0) (at-loop .loop .inv .state) (at-loop-test .loop-test .taken))
 
 returns : tie.Need-returns Inv-loop μ-loop
-returns c = row-stops (c .before .before .before .before .before .before .before .before .before .before .before .before .before .before .before .before .before .before .before .before .before .before .before .before .before .before .pre .0) (c .before .before .before .before .before .before .before .before .before .before .before .before .before .before .before .before .loop .inv) (c .before .before .before .before .before .before .before .before .before .before .before .before .before .before .before .loop-test .taken) (relaxed-at (toZ-ofZ w64 _ (sfits-of (c .before .before .before .before .before .before .before .before .before .before .before .before .before .relax-arc-arg .given))) (c .before .before .before .before .before .before .before .before .relax-arc .ensures)) (c .if1 .taken)
+returns c =
+    let at-relax-arc = c .before .before .before .before .before .before .before .before in
+    let at-relax-arc-arg = at-relax-arc .before .before .before .before .before in
+    let at-loop-test = at-relax-arc-arg .before .before in
+    let at-loop = at-loop-test .before in
+    let start = at-loop .before .before .before .before .before .before .before .before .before .before in
+    row-stops (start .pre .0) (at-loop .loop .inv) (at-loop-test .loop-test .taken) (relaxed-at (toZ-ofZ w64 _ (sfits-of (at-relax-arc-arg .relax-arc-arg .given))) (at-relax-arc .relax-arc .ensures))
+    (c .if1 .taken)
 
 add-i : tie.Need-add-i Inv-loop μ-loop
-add-i c = omega (arith, c .before .before .before .before .before .before .before .before .before .before .before .before .before .before .before .loop-test .taken, c .before .before .before .before .before .before .before .before .before .before .before .before .before .before .before .before .before .before .shared-slice-known3 .given (c .before .before .before .before .before .before .before .before .before .before .before .before .before .before .before .before .before .before .before .before .before .before .before .before .before .before .args .u + 1))
+add-i c =
+    let at-loop-test = c .before .before .before .before .before .before .before .before .before .before .before .before .before .before .before in
+    let at-shared-slice-known3 = at-loop-test .before .before .before in
+    let start = at-shared-slice-known3 .before .before .before .before .before .before .before .before in
+    omega (arith, at-loop-test .loop-test .taken, at-shared-slice-known3 .shared-slice-known3 .given (start .args .u + 1))
 
 loop-again : tie.Need-loop-again Inv-loop μ-loop
-loop-again c = row-next (c .before .before .before .before .before .before .before .before .before .before .before .before .before .before .before .before .before .before .before .before .before .before .before .before .before .before .pre .0) (c .before .before .before .before .before .before .before .before .before .before .before .before .before .before .before .before .loop .inv) (c .before .before .before .before .before .before .before .before .before .before .before .before .before .before .before .loop-test .taken) (relaxed-at (toZ-ofZ w64 _ (sfits-of (c .before .before .before .before .before .before .before .before .before .before .before .before .before .relax-arc-arg .given))) (c .before .before .before .before .before .before .before .before .relax-arc .ensures)) (c .if1 .left)
+loop-again c =
+    let at-relax-arc = c .before .before .before .before .before .before .before .before in
+    let at-relax-arc-arg = at-relax-arc .before .before .before .before .before in
+    let at-loop-test = at-relax-arc-arg .before .before in
+    let at-loop = at-loop-test .before in
+    let start = at-loop .before .before .before .before .before .before .before .before .before .before in
+    row-next (start .pre .0) (at-loop .loop .inv) (at-loop-test .loop-test .taken) (relaxed-at (toZ-ofZ w64 _ (sfits-of (at-relax-arc-arg .relax-arc-arg .given))) (at-relax-arc .relax-arc .ensures))
+    (c .if1 .left)
 
 returns-2 : tie.Need-returns-2 Inv-loop μ-loop
 returns-2 c = row-ends (c .before .before .before .before .before .before .before .before .before .before .before .pre .0) (c .before .loop .inv) (c .loop-test .left)

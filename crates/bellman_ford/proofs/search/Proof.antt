@@ -14,7 +14,8 @@ use Rattle.bellman_ford.specs.Search.{memoryOf, toDo}
 use Rattle.bellman_ford.proofs.Turns.{Turning, turn-first, turn-below, turn-open, turn-next, turn-falls, turn-stops, turn-ends}
 
 abbrev Inv-loop : tie.InvT-loop
-Inv-loop m p source offsets heads weights dist₀ queue₀ queued₀ lengths₀ size₀ head₀ dist queue queued lengths size head = Turning m p source (listsOf offsets heads weights) head size (memoryOf dist₀ queue₀ queued₀ lengths₀) (memoryOf dist queue queued lengths)
+Inv-loop m p source offsets heads weights dist₀ queue₀ queued₀ lengths₀ size₀ head₀ dist queue queued lengths size head =
+    Turning m p source (listsOf offsets heads weights) head size (memoryOf dist₀ queue₀ queued₀ lengths₀) (memoryOf dist queue queued lengths)
 
 abbrev μ-loop : tie.MeasureT-loop
 μ-loop m p source offsets heads weights dist₀ queue₀ queued₀ lengths₀ size₀ head₀ dist queue queued lengths size head = toDo (memoryOf dist queue queued lengths) size

@@ -24,9 +24,11 @@ search-requires c κs =
 
 returns : tie.Need-returns
 returns c =
+    let at-search = c .before .before .before .before .before .before .before in
     let n = c .before .before .before .before .before .before .before .before .before .before .before .before .before .before .before in
     let r = n .before .before .before .before .before .before .position-csr .ensures in
-    solved-of (n .before .before .before .before .before .before .before .before .before .before .before .before .before .before .before .before .before .before .pre) (r .0) (r .1) (c .before .before .before .before .before .before .before .search .ensures)
+    solved-of (n .before .before .before .before .before .before .before .before .before .before .before .before .before .before .before .before .before .before .pre) (r .0) (r .1)
+    (at-search .search .ensures)
 
 pub solve-spec : {M : Type 1} → statement M
 solve-spec =

@@ -12,30 +12,40 @@ use Rattle.dijkstra.proofs.Settles.{promise-kept}
 returns : tie.Need-returns
 returns c = refused _ _ _ _ (c .before .refusal .ensures) (c .if1 .taken)
 
-arc-room-requires : tie.Need-arc-room-requires
-arc-room-requires c κs =
-    let v = c .before .before .before .before .before .before .before .before .before .before .before .before .before .before .before .before .before .before .args in
-    whole-ints (v .map .bound) (v .map .count) (v .map .directed) (v .marks .now) (v .from .now) (v .to .now) (v .costs .now) (passed _ _ _ (sym (c .before .refusal .ensures) ∙ c .if1 .left) .whole) .links
+most-arcs-requires : tie.Need-most-arcs-requires
+most-arcs-requires c κs =
+    let start = c .before .before .before .before .before .before .before .before .before .before .before .before .before .before .before .before .before .before in
+    let v = start .args in
+    whole-ints (v .map .bound) (v .map .count) (v .map .directed) (v .marks .now) (v .from .now) (v .to .now) (v .costs .now)
+    (passed _ _ _ (sym (c .before .refusal .ensures) ∙ c .if1 .left) .whole) .links
 
 solve-requires : tie.Need-solve-requires
 solve-requires c κs =
     let e = c .before .before .before .before .before .before .before .before .before in
     let p = passed _ _ _ (sym (e .before .refusal .ensures) ∙ e .if1 .left) in
-    record { marks = e .before .before .before .before .before .before .before .before .before .before .before .before .before .before .before .before .before .before .args .marks .now; whole = p .whole; inside = p .inside; source = source-below p; rows = p .room .rows; room = roomy p }
+    record {
+      marks = e .before .before .before .before .before .before .before .before .before .before .before .before .before .before .before .before .before .before .args .marks .now;
+      whole = p .whole;
+      inside = p .inside;
+      source = source-below p;
+      rows = p .room .rows;
+      room = roomy p;
+    }
 
 wipe-requires : tie.Need-wipe-requires
 wipe-requires c κs =
     let t = c .before .before .before .before .before .before .before .before .before .before .before .before .before .before .before .before .before .before .before .before in
     let a = t .before .before .before .before .before .before .before .before .before in
     let e = a .before in
-    room-after (passed _ _ _ (sym (e .before .refusal .ensures) ∙ e .if1 .left)) (a .arc-room .ensures) (t .solve .ensures)
+    room-after (passed _ _ _ (sym (e .before .refusal .ensures) ∙ e .if1 .left)) (a .most-arcs .ensures) (t .solve .ensures)
 
 blank-refused-requires : tie.Need-blank-refused-requires
 blank-refused-requires c κs =
-    let t = c .before .before .before .before .before .before .before .before .before .before .before .before .before .before .before .before .before .before .before .before .before .before .before .before .before .before .before .before .before .before .before .before .before .before in
+    let t = c .before .before .before .before .before .before .before .before .before .before .before .before .before .before .before .before .before .before .before .before .before .before .before
+    .before .before .before .before .before .before .before .before .before .before .before in
     let a = t .before .before .before .before .before .before .before .before .before in
     let e = a .before in
-    dist-after (passed _ _ _ (sym (e .before .refusal .ensures) ∙ e .if1 .left)) (a .arc-room .ensures) (t .solve .ensures)
+    dist-after (passed _ _ _ (sym (e .before .refusal .ensures) ∙ e .if1 .left)) (a .most-arcs .ensures) (t .solve .ensures)
 
 returns-2 : tie.Need-returns-2
 returns-2 c =
@@ -43,7 +53,8 @@ returns-2 c =
     let t = w .before .before .before .before .before .before .before .before .before .before .before .before .before .before .before .before .before .before .before .before .before in
     let a = t .before .before .before .before .before .before .before .before .before in
     let e = a .before in
-    answer (passed _ _ _ (sym (e .before .refusal .ensures) ∙ e .if1 .left)) (a .arc-room .ensures) (t .solve .ensures) (w .wipe .ensures) (c .before .blank-refused .ensures .0) (c .before .blank-refused .ensures .1)
+    answer (passed _ _ _ (sym (e .before .refusal .ensures) ∙ e .if1 .left)) (a .most-arcs .ensures) (t .solve .ensures) (w .wipe .ensures) (c .before .blank-refused .ensures .0)
+    (c .before .blank-refused .ensures .1)
 
 pub dijkstra-spec : {M : Type 1} → statement M
 dijkstra-spec =
@@ -59,7 +70,7 @@ dijkstra-spec =
     (λ c. search needs)
     (λ c. search needs)
     returns
-    arc-room-requires
+    most-arcs-requires
     solve-requires
     wipe-requires
     blank-refused-requires
@@ -68,7 +79,7 @@ dijkstra-spec =
     (λ c. promise-kept (returns-2 c) .1 .rows .heads .long)
     (λ c. promise-kept (returns-2 c) .1 .rows .weights .long)
     (λ c. promise-kept (returns-2 c) .1 .preds .long)
-    (λ c. promise-kept (returns-2 c) .1 .heap .long)
-    (λ c. promise-kept (returns-2 c) .1 .places .long)
+    (λ c. promise-kept (returns-2 c) .1 .peaks .long)
+    (λ c. promise-kept (returns-2 c) .1 .words .long)
     (λ c. promise-kept (returns-2 c) .1 .keys .long)
     returns-2)

@@ -12,31 +12,54 @@ use Rattle.dijkstra.proofs.Refusals.{refused-limits, refused-short, ref
 returns : tie.Need-returns
 returns c = refused-limits _ _ _ (sym (c .before .whole .ensures) ∙ not-true _ (c .if1 .taken))
 
-arc-room-requires : tie.Need-arc-room-requires
-arc-room-requires c κs =
+most-arcs-requires : tie.Need-most-arcs-requires
+most-arcs-requires c κs =
     let v = c .before .before .before .before .before .before .before .before .before .before .args in
     whole-ints (v .map .bound) (v .map .count) (v .map .directed) (v .marks .now) (v .from .now) (v .to .now) (v .costs .now) (sym (c .before .whole .ensures) ∙ not-false _ (c .if1 .left)) .links
 
 returns-2 : tie.Need-returns-2
-returns-2 c = refused-short _ _ _ (sym (c .before .before .before .before .whole .ensures) ∙ not-false _ (c .before .before .before .if1 .left)) (c .before .long-enough .ensures) (c .before .before .arc-room .ensures) (not-true _ (c .if2 .taken))
+returns-2 c =
+    let at-if1 = c .before .before .before in
+    let at-whole = at-if1 .before in
+    refused-short _ _ _ (sym (at-whole .whole .ensures) ∙ not-false _ (at-if1 .if1 .left)) (c .before .long-enough .ensures) (c .before .before .most-arcs .ensures) (not-true _ (c .if2 .taken))
 
 inside-requires : tie.Need-inside-requires
 inside-requires c κs = sym (c .before .before .before .before .whole .ensures) ∙ not-false _ (c .before .before .before .if1 .left)
 
 returns-3 : tie.Need-returns-3
-returns-3 c = refused-outside _ _ _ (sym (c .before .before .before .before .before .before .whole .ensures) ∙ not-false _ (c .before .before .before .before .before .if1 .left)) (c .before .before .before .long-enough .ensures) (c .before .before .before .before .arc-room .ensures) (not-false _ (c .before .before .if2 .left)) (sym (c .before .inside .ensures) ∙ not-true _ (c .if3 .taken))
+returns-3 c =
+    let at-long-enough = c .before .before .before in
+    let at-most-arcs = at-long-enough .before in
+    let at-if1 = at-most-arcs .before in
+    let at-whole = at-if1 .before in
+    refused-outside _ _ _ (sym (at-whole .whole .ensures) ∙ not-false _ (at-if1 .if1 .left)) (at-long-enough .long-enough .ensures) (at-most-arcs .most-arcs .ensures)
+    (not-false _ (c .before .before .if2 .left)) (sym (c .before .inside .ensures) ∙ not-true _ (c .if3 .taken))
 
 has-index-requires : tie.Need-has-index-requires
 has-index-requires c κs = whole _ _ _ _ (sym (c .before .before .before .before .before .before .whole .ensures) ∙ not-false _ (c .before .before .before .before .before .if1 .left)) .marked
 
 returns-4 : tie.Need-returns-4
 returns-4 c =
-    refused-unknown _ _ _ (sym (c .before .before .before .before .before .before .before .before .whole .ensures) ∙ not-false _ (c .before .before .before .before .before .before .before .if1 .left)) (c .before .before .before .before .before .long-enough .ensures) (c .before .before .before .before .before .before .arc-room .ensures) (not-false _ (c .before .before .before .before .if2 .left)) (sym (c .before .before .before .inside .ensures) ∙ not-false _ (c .before .before .if3 .left))
+    let at-inside = c .before .before .before in
+    let at-if2 = at-inside .before in
+    let at-long-enough = at-if2 .before in
+    let at-most-arcs = at-long-enough .before in
+    let at-if1 = at-most-arcs .before in
+    let at-whole = at-if1 .before in
+    refused-unknown _ _ _ (sym (at-whole .whole .ensures) ∙ not-false _ (at-if1 .if1 .left)) (at-long-enough .long-enough .ensures) (at-most-arcs .most-arcs .ensures) (not-false _ (at-if2 .if2 .left))
+    (sym (at-inside .inside .ensures) ∙ not-false _ (c .before .before .if3 .left))
     (sym (c .before .has-index .ensures) ∙ not-true _ (c .if4 .taken))
 
 returns-5 : tie.Need-returns-5
 returns-5 c =
-    refused-none _ _ _ (sym (c .before .before .before .before .before .before .before .before .whole .ensures) ∙ not-false _ (c .before .before .before .before .before .before .before .if1 .left)) (c .before .before .before .before .before .long-enough .ensures) (c .before .before .before .before .before .before .arc-room .ensures) (not-false _ (c .before .before .before .before .if2 .left)) (sym (c .before .before .before .inside .ensures) ∙ not-false _ (c .before .before .if3 .left))
+    let at-inside = c .before .before .before in
+    let at-if2 = at-inside .before in
+    let at-long-enough = at-if2 .before in
+    let at-most-arcs = at-long-enough .before in
+    let at-if1 = at-most-arcs .before in
+    let at-whole = at-if1 .before in
+    refused-none _ _ _ (sym (at-whole .whole .ensures) ∙ not-false _ (at-if1 .if1 .left)) (at-long-enough .long-enough .ensures) (at-most-arcs .most-arcs .ensures) (not-false _ (at-if2 .if2 .left))
+    (sym (at-inside .inside .ensures) ∙ not-false _ (c .before .before .if3 .left))
     (sym (c .before .has-index .ensures) ∙ not-false _ (c .if4 .left))
 
 pub refusal-spec : {M : Type 1} → statement M
@@ -45,7 +68,7 @@ refusal-spec =
     (tie.spec
     (λ c κs. search needs)
     returns
-    arc-room-requires
+    most-arcs-requires
     (λ c κs. search needs)
     returns-2
     inside-requires

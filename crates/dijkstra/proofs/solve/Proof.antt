@@ -9,10 +9,17 @@ position-csr-requires : tie.Need-position-csr-requires
 position-csr-requires c κs = let s = c .before .before .before .before .before .before .before .before .before .before in (ready (s .pre), list-room (s .pre))
 
 to-all-requires : tie.Need-to-all-requires
-to-all-requires c κs = let r = c .before .before .before .before .before .before .before .before .before .before .before .before .before in let s = r .before .before .before .before .before .before .before .before .before .before .before in (cheap (s .pre) (r .position-csr .ensures .0) (r .position-csr .ensures .1), (s .pre .source, s .pre .room))
+to-all-requires c κs =
+    let r = c .before .before .before .before .before .before .before .before .before .before .before .before .before in
+    let s = r .before .before .before .before .before .before .before .before .before .before .before in
+    (cheap (s .pre) (r .position-csr .ensures .0) (r .position-csr .ensures .1), (s .pre .source, s .pre .room))
 
 returns : tie.Need-returns
-returns c = let t = c .before .before .before .before .before .before .before .before in let r = t .before .before .before .before .before .before .before .before .before .before .before .before .before .before in solved (r .before .before .before .before .before .before .before .before .before .before .before .pre) (r .position-csr .ensures .0) (r .position-csr .ensures .1) (t .to-all .ensures .0) (t .to-all .ensures .1)
+returns c =
+    let t = c .before .before .before .before .before .before .before .before in
+    let r = t .before .before .before .before .before .before .before .before .before .before .before .before .before .before in
+    solved (r .before .before .before .before .before .before .before .before .before .before .before .pre) (r .position-csr .ensures .0) (r .position-csr .ensures .1) (t .to-all .ensures .0)
+    (t .to-all .ensures .1)
 
 pub solve-spec : {M : Type 1} → statement M
 solve-spec =

@@ -41,30 +41,62 @@ same-length-8 c = search needs
 returns : tie.Need-returns
 returns c = refused _ _ _ _ _ (c .before .refusal .ensures) (c .if1 .taken)
 
-arc-room-requires : tie.Need-arc-room-requires
-arc-room-requires c κs =
+most-arcs-requires : tie.Need-most-arcs-requires
+most-arcs-requires c κs =
     let s = c .before .before .before .before .before .before .before .before .before .before .before .before .before .before .before .before .before .before .before .before .before .before .before in
-    let b = buffersOf (s .args .dist .now) (s .args .preds .now) (s .args .offsets .now) (s .args .heads .now) (s .args .weights .now) (s .args .heap .now) (s .args .places .now) (s .args .keys .now) in
-    few-links (s .args .map .bound) (s .args .map .count) (s .args .map .directed) (s .args .marks .now) (s .args .from .now) (s .args .to .now) (s .args .bits .now) (s .args .opens .now) (s .args .source) b (sym (c .before .refusal .ensures) ∙ c .if1 .left)
+    let b =
+    buffersOf (s .args .dist .now) (s .args .preds .now) (s .args .offsets .now) (s .args .heads .now) (s .args .weights .now) (s .args .peaks .now) (s .args .words .now) (s .args .keys .now) in
+    few-links (s .args .map .bound) (s .args .map .count) (s .args .map .directed) (s .args .marks .now) (s .args .from .now) (s .args .to .now) (s .args .bits .now) (s .args .opens .now)
+    (s .args .source) b (sym (c .before .refusal .ensures) ∙ c .if1 .left)
 
 position-csr-f64-requires : tie.Need-position-csr-f64-requires
 position-csr-f64-requires c κs =
-    let s = c .before .before .before .before .before .before .before .before .before .before .before .before .before .before .before .before .before .before .before .before .before .before .before .before .before .before .before in
-    let b = buffersOf (s .args .dist .now) (s .args .preds .now) (s .args .offsets .now) (s .args .heads .now) (s .args .weights .now) (s .args .heap .now) (s .args .places .now) (s .args .keys .now) in
-    (ready (s .args .map .bound) (s .args .map .count) (s .args .map .directed) (s .args .marks .now) (s .args .from .now) (s .args .to .now) (s .args .bits .now) (s .args .opens .now) (s .args .source) b (sym (c .before .before .before .before .before .refusal .ensures) ∙ c .before .before .before .before .if1 .left), room (s .args .map .bound) (s .args .map .count) (s .args .map .directed) (s .args .marks .now) (s .args .from .now) (s .args .to .now) (s .args .bits .now) (s .args .opens .now) (s .args .source) b (sym (c .before .before .before .before .before .refusal .ensures) ∙ c .before .before .before .before .if1 .left))
+    let at-if1 = c .before .before .before .before in
+    let at-refusal = at-if1 .before in
+    let s = c .before .before .before .before .before .before .before .before .before .before .before .before .before .before .before .before .before .before .before .before .before .before .before
+    .before .before .before .before in
+    let b =
+    buffersOf (s .args .dist .now) (s .args .preds .now) (s .args .offsets .now) (s .args .heads .now) (s .args .weights .now) (s .args .peaks .now) (s .args .words .now) (s .args .keys .now) in (
+      ready (s .args .map .bound) (s .args .map .count) (s .args .map .directed) (s .args .marks .now) (s .args .from .now) (s .args .to .now) (s .args .bits .now) (s .args .opens .now)
+          (s .args .source) b (sym (at-refusal .refusal .ensures) ∙ at-if1 .if1 .left),
+      room (s .args .map .bound) (s .args .map .count) (s .args .map .directed) (s .args .marks .now) (s .args .from .now) (s .args .to .now) (s .args .bits .now) (s .args .opens .now)
+          (s .args .source) b (sym (at-refusal .refusal .ensures) ∙ at-if1 .if1 .left),
+    )
 
 run-requires : tie.Need-run-requires
 run-requires c κs =
-    let s = c .before .before .before .before .before .before .before .before .before .before .before .before .before .before .before .before .before .before .before .before .before .before .before .before .before .before .before .before .before .before .before .before .before .before .before .before .before .before .before .before .before .before in
-    let b = buffersOf (s .args .dist .now) (s .args .preds .now) (s .args .offsets .now) (s .args .heads .now) (s .args .weights .now) (s .args .heap .now) (s .args .places .now) (s .args .keys .now) in
-    (list-sound (s .args .map .bound) (s .args .map .count) (s .args .map .directed) (s .args .marks .now) (s .args .from .now) (s .args .to .now) (s .args .bits .now) (s .args .opens .now) (s .args .source) b (sym (c .before .before .before .before .before .before .before .before .before .before .before .before .before .before .before .before .before .before .before .before .refusal .ensures) ∙ c .before .before .before .before .before .before .before .before .before .before .before .before .before .before .before .before .before .before .before .if1 .left) (c .before .before .before .before .before .before .before .before .before .before .before .before .before .before .position-csr-f64 .ensures), (source-below (s .args .map .bound) (s .args .map .count) (s .args .map .directed) (s .args .marks .now) (s .args .from .now) (s .args .to .now) (s .args .bits .now) (s .args .opens .now) (s .args .source) b (sym (c .before .before .before .before .before .before .before .before .before .before .before .before .before .before .before .before .before .before .before .before .refusal .ensures) ∙ c .before .before .before .before .before .before .before .before .before .before .before .before .before .before .before .before .before .before .before .if1 .left), roomy (s .args .map .bound) (s .args .map .count) (s .args .map .directed) (s .args .marks .now) (s .args .from .now) (s .args .to .now) (s .args .bits .now) (s .args .opens .now) (s .args .source) b (sym (c .before .before .before .before .before .before .before .before .before .before .before .before .before .before .before .before .before .before .before .before .refusal .ensures) ∙ c .before .before .before .before .before .before .before .before .before .before .before .before .before .before .before .before .before .before .before .if1 .left)))
+    let at-position-csr-f64 = c .before .before .before .before .before .before .before .before .before .before .before .before .before .before in
+    let at-if1 = at-position-csr-f64 .before .before .before .before .before in
+    let at-refusal = at-if1 .before in
+    let s = c .before .before .before .before .before .before .before .before .before .before .before .before .before .before .before .before .before .before .before .before .before .before .before
+    .before .before .before .before .before .before .before .before .before .before .before .before .before .before .before .before .before .before .before in
+    let b =
+    buffersOf (s .args .dist .now) (s .args .preds .now) (s .args .offsets .now) (s .args .heads .now) (s .args .weights .now) (s .args .peaks .now) (s .args .words .now) (s .args .keys .now) in (
+      list-sound (s .args .map .bound) (s .args .map .count) (s .args .map .directed) (s .args .marks .now) (s .args .from .now) (s .args .to .now) (s .args .bits .now) (s .args .opens .now)
+          (s .args .source) b (sym (at-refusal .refusal .ensures) ∙ at-if1 .if1 .left) (at-position-csr-f64 .position-csr-f64 .ensures),
+      (
+        source-below (s .args .map .bound) (s .args .map .count) (s .args .map .directed) (s .args .marks .now) (s .args .from .now) (s .args .to .now) (s .args .bits .now) (s .args .opens .now)
+            (s .args .source) b (sym (at-refusal .refusal .ensures) ∙ at-if1 .if1 .left),
+        roomy (s .args .map .bound) (s .args .map .count) (s .args .map .directed) (s .args .marks .now) (s .args .from .now) (s .args .to .now) (s .args .bits .now) (s .args .opens .now)
+            (s .args .source) b (sym (at-refusal .refusal .ensures) ∙ at-if1 .if1 .left),
+      ),
+    )
 
 wipe-requires : tie.Need-wipe-requires
 wipe-requires c κs =
-    let s = c .before .before .before .before .before .before .before .before .before .before .before .before .before .before .before .before .before .before .before .before .before .before .before .before .before .before .before .before .before .before .before .before .before .before .before .before .before .before .before .before .before .before .before .before .before .before .before .before .before .before .before .before .before .before .before .before .before .before .before in
-    let b = buffersOf (s .args .dist .now) (s .args .preds .now) (s .args .offsets .now) (s .args .heads .now) (s .args .weights .now) (s .args .heap .now) (s .args .places .now) (s .args .keys .now) in
-    let w = wipes (s .args .map .bound) (s .args .map .count) (s .args .map .directed) (s .args .marks .now) (s .args .from .now) (s .args .to .now) (s .args .bits .now) (s .args .opens .now) (s .args .source) b (sym (c .before .before .before .before .before .before .before .before .before .before .before .before .before .before .before .before .before .before .before .before .before .before .before .before .before .before .before .before .before .before .before .before .before .before .before .before .before .refusal .ensures) ∙ c .before .before .before .before .before .before .before .before .before .before .before .before .before .before .before .before .before .before .before .before .before .before .before .before .before .before .before .before .before .before .before .before .before .before .before .before .if1 .left) (c .before .before .before .before .before .before .before .before .before .before .before .before .before .before .before .before .before .before .before .before .before .before .before .before .before .before .before .before .before .before .before .position-csr-f64 .ensures) (c .before .before .before .before .before .before .before .before .before .before .before .before .before .before .before .before .run .ensures) (c .before .before .before .before .before .before .before .before .before .before .before .before .before .before .before .before .before .before .before .before .before .before .before .before .before .before .before .before .before .before .before .before .before .before .before .arc-room .ensures) in
-    (w .bounded, w .offsets, w .heads, w .weights, w .lists .heap, w .lists .places, w .lists .keys)
+    let at-run = c .before .before .before .before .before .before .before .before .before .before .before .before .before .before .before .before in
+    let at-position-csr-f64 = at-run .before .before .before .before .before .before .before .before .before .before .before .before .before .before .before in
+    let at-most-arcs = at-position-csr-f64 .before .before .before .before in
+    let at-if1 = at-most-arcs .before in
+    let at-refusal = at-if1 .before in
+    let s = c .before .before .before .before .before .before .before .before .before .before .before .before .before .before .before .before .before .before .before .before .before .before .before
+    .before .before .before .before .before .before .before .before .before .before .before .before .before .before .before .before .before .before .before .before .before .before .before .before
+    .before .before .before .before .before .before .before .before .before .before .before .before in
+    let b =
+    buffersOf (s .args .dist .now) (s .args .preds .now) (s .args .offsets .now) (s .args .heads .now) (s .args .weights .now) (s .args .peaks .now) (s .args .words .now) (s .args .keys .now) in
+    let w = wipes (s .args .map .bound) (s .args .map .count) (s .args .map .directed) (s .args .marks .now) (s .args .from .now) (s .args .to .now) (s .args .bits .now) (s .args .opens .now)
+    (s .args .source) b (sym (at-refusal .refusal .ensures) ∙ at-if1 .if1 .left) (at-position-csr-f64 .position-csr-f64 .ensures) (at-run .run .ensures) (at-most-arcs .most-arcs .ensures) in
+    (w .bounded, w .offsets, w .heads, w .weights, w .lists .peaks, w .lists .words, w .lists .keys)
 
 same-length-9 : tie.Need-same-length-9
 same-length-9 c = search needs
@@ -73,65 +105,154 @@ same-length-10 : tie.Need-same-length-10
 same-length-10 c = search needs
 
 same-length-11 : tie.Need-same-length-11
-same-length-11 c = c .before .before .before .before .before .before .before .before .before .before .before .before .before .wipe .kept .1 .1 .0 ∙ c .before .before .before .before .before .before .before .before .before .before .before .before .before .before .before .before .before .before .before .before .before .before .before .before .before .before .before .before .before .before .before .before .before .before .before .before .before .before .before .before .before .before .before .before .before .position-csr-f64 .kept .1 .1 .1 .1 .1 .0
+same-length-11 c =
+    let at-wipe = c .before .before .before .before .before .before .before .before .before .before .before .before .before in
+    let at-position-csr-f64 = at-wipe .before .before .before .before .before .before .before .before .before .before .before .before .before .before .before .before .before .before .before .before
+    .before .before .before .before .before .before .before .before .before .before .before .before in
+    at-wipe .wipe .kept .1 .1 .0 ∙ at-position-csr-f64 .position-csr-f64 .kept .1 .1 .1 .1 .1 .0
 
 same-length-12 : tie.Need-same-length-12
-same-length-12 c = c .before .before .before .before .before .before .before .before .before .before .before .before .before .wipe .kept .1 .1 .1 .0 ∙ c .before .before .before .before .before .before .before .before .before .before .before .before .before .before .before .before .before .before .before .before .before .before .before .before .before .before .before .before .before .before .before .before .before .before .before .before .before .before .before .before .before .before .before .before .before .position-csr-f64 .kept .1 .1 .1 .1 .1 .1 .0
+same-length-12 c =
+    let at-wipe = c .before .before .before .before .before .before .before .before .before .before .before .before .before in
+    let at-position-csr-f64 = at-wipe .before .before .before .before .before .before .before .before .before .before .before .before .before .before .before .before .before .before .before .before
+    .before .before .before .before .before .before .before .before .before .before .before .before in
+    at-wipe .wipe .kept .1 .1 .1 .0 ∙ at-position-csr-f64 .position-csr-f64 .kept .1 .1 .1 .1 .1 .1 .0
 
 same-length-13 : tie.Need-same-length-13
-same-length-13 c = c .before .before .before .before .before .before .before .before .before .before .before .before .before .wipe .kept .1 .1 .1 .1 .0 ∙ c .before .before .before .before .before .before .before .before .before .before .before .before .before .before .before .before .before .before .before .before .before .before .before .before .before .before .before .before .before .before .before .before .before .before .before .before .before .before .before .before .before .before .before .before .before .position-csr-f64 .kept .1 .1 .1 .1 .1 .1 .1 .0
+same-length-13 c =
+    let at-wipe = c .before .before .before .before .before .before .before .before .before .before .before .before .before in
+    let at-position-csr-f64 = at-wipe .before .before .before .before .before .before .before .before .before .before .before .before .before .before .before .before .before .before .before .before
+    .before .before .before .before .before .before .before .before .before .before .before .before in
+    at-wipe .wipe .kept .1 .1 .1 .1 .0 ∙ at-position-csr-f64 .position-csr-f64 .kept .1 .1 .1 .1 .1 .1 .1 .0
 
 same-length-14 : tie.Need-same-length-14
-same-length-14 c = c .before .before .before .before .before .before .before .before .before .before .before .before .before .wipe .kept .1 .1 .1 .1 .1 .0 ∙ c .before .before .before .before .before .before .before .before .before .before .before .before .before .before .before .before .before .before .before .before .before .before .before .before .before .before .before .before .before .before .run .kept .1 .1 .1 .1 .1 .1 .1 .1 .0
+same-length-14 c =
+    let at-wipe = c .before .before .before .before .before .before .before .before .before .before .before .before .before in
+    let at-run = at-wipe .before .before .before .before .before .before .before .before .before .before .before .before .before .before .before .before .before in
+    at-wipe .wipe .kept .1 .1 .1 .1 .1 .0 ∙ at-run .run .kept .1 .1 .1 .1 .1 .1 .1 .1 .0
 
 same-length-15 : tie.Need-same-length-15
-same-length-15 c = c .before .before .before .before .before .before .before .before .before .before .before .before .before .wipe .kept .1 .1 .1 .1 .1 .1 .0 ∙ c .before .before .before .before .before .before .before .before .before .before .before .before .before .before .before .before .before .before .before .before .before .before .before .before .before .before .before .before .before .before .run .kept .1 .1 .1 .1 .1 .1 .1 .1 .1 .0
+same-length-15 c =
+    let at-wipe = c .before .before .before .before .before .before .before .before .before .before .before .before .before in
+    let at-run = at-wipe .before .before .before .before .before .before .before .before .before .before .before .before .before .before .before .before .before in
+    at-wipe .wipe .kept .1 .1 .1 .1 .1 .1 .0 ∙ at-run .run .kept .1 .1 .1 .1 .1 .1 .1 .1 .1 .0
 
 same-length-16 : tie.Need-same-length-16
-same-length-16 c = c .before .before .before .before .before .before .before .before .before .before .before .before .before .wipe .kept .1 .1 .1 .1 .1 .1 .1 .0 ∙ c .before .before .before .before .before .before .before .before .before .before .before .before .before .before .before .before .before .before .before .before .before .before .before .before .before .before .before .before .before .before .run .kept .1 .1 .1 .1 .1 .1 .1 .1 .1 .1 .0
+same-length-16 c =
+    let at-wipe = c .before .before .before .before .before .before .before .before .before .before .before .before .before in
+    let at-run = at-wipe .before .before .before .before .before .before .before .before .before .before .before .before .before .before .before .before .before in
+    at-wipe .wipe .kept .1 .1 .1 .1 .1 .1 .1 .0 ∙ at-run .run .kept .1 .1 .1 .1 .1 .1 .1 .1 .1 .1 .0
 
 returns-2 : tie.Need-returns-2
 returns-2 c =
-    let s = c .before .before .before .before .before .before .before .before .before .before .before .before .before .before .before .before .before .before .before .before .before .before .before .before .before .before .before .before .before .before .before .before .before .before .before .before .before .before .before .before .before .before .before .before .before .before .before .before .before .before .before .before .before .before .before .before .before .before .before .before .before .before .before .before .before .before .before .before .before .before .before .before .before in
-    let b = buffersOf (s .args .dist .now) (s .args .preds .now) (s .args .offsets .now) (s .args .heads .now) (s .args .weights .now) (s .args .heap .now) (s .args .places .now) (s .args .keys .now) in
-    answer-done (s .args .map .bound) (s .args .map .count) (s .args .map .directed) (s .args .marks .now) (s .args .from .now) (s .args .to .now) (s .args .bits .now) (s .args .opens .now) (s .args .source) b (sym (c .before .before .before .before .before .before .before .before .before .before .before .before .before .before .before .before .before .before .before .before .before .before .before .before .before .before .before .before .before .before .before .before .before .before .before .before .before .before .before .before .before .before .before .before .before .before .before .before .before .before .before .refusal .ensures) ∙ c .before .before .before .before .before .before .before .before .before .before .before .before .before .before .before .before .before .before .before .before .before .before .before .before .before .before .before .before .before .before .before .before .before .before .before .before .before .before .before .before .before .before .before .before .before .before .before .before .before .before .if1 .left) (c .before .before .before .before .before .before .before .before .before .before .before .before .before .before .before .before .before .before .before .before .before .before .before .before .before .before .before .before .before .before .before .before .before .before .before .before .before .before .before .before .before .before .before .before .before .position-csr-f64 .ensures) (c .before .before .before .before .before .before .before .before .before .before .before .before .before .before .before .before .before .before .before .before .before .before .before .before .before .before .before .before .before .before .run .ensures) (c .before .before .before .before .before .before .before .before .before .before .before .before .before .before .before .before .before .before .before .before .before .before .before .before .before .before .before .before .before .before .before .before .before .before .before .before .before .before .before .before .before .before .before .before .before .before .before .before .before .arc-room .ensures) (c .before .before .before .before .before .before .before .before .before .before .before .before .before .wipe .ensures .0) (c .before .before .before .before .before .before .before .before .before .before .before .before .before .wipe .ensures .1 .0) (c .before .before .before .before .before .before .before .before .before .before .before .before .before .wipe .ensures .1 .1 .0) (c .before .before .before .before .before .before .before .before .before .before .before .before .before .wipe .ensures .1 .1 .1 .0) (c .before .before .before .before .before .before .before .before .before .before .before .before .before .wipe .ensures .1 .1 .1 .1 .0) (c .before .before .before .before .before .before .before .before .before .before .before .before .before .wipe .ensures .1 .1 .1 .1 .1) (c .if2 .taken)
+    let at-wipe = c .before .before .before .before .before .before .before .before .before .before .before .before .before in
+    let at-run = at-wipe .before .before .before .before .before .before .before .before .before .before .before .before .before .before .before .before .before in
+    let at-position-csr-f64 = at-run .before .before .before .before .before .before .before .before .before .before .before .before .before .before .before in
+    let at-most-arcs = at-position-csr-f64 .before .before .before .before in
+    let at-if1 = at-most-arcs .before in
+    let at-refusal = at-if1 .before in
+    let s = c .before .before .before .before .before .before .before .before .before .before .before .before .before .before .before .before .before .before .before .before .before .before .before
+    .before .before .before .before .before .before .before .before .before .before .before .before .before .before .before .before .before .before .before .before .before .before .before .before
+    .before .before .before .before .before .before .before .before .before .before .before .before .before .before .before .before .before .before .before .before .before .before .before .before
+    .before .before in
+    let b =
+    buffersOf (s .args .dist .now) (s .args .preds .now) (s .args .offsets .now) (s .args .heads .now) (s .args .weights .now) (s .args .peaks .now) (s .args .words .now) (s .args .keys .now) in
+    answer-done (s .args .map .bound) (s .args .map .count) (s .args .map .directed) (s .args .marks .now) (s .args .from .now) (s .args .to .now) (s .args .bits .now) (s .args .opens .now)
+    (s .args .source) b (sym (at-refusal .refusal .ensures) ∙ at-if1 .if1 .left) (at-position-csr-f64 .position-csr-f64 .ensures) (at-run .run .ensures) (at-most-arcs .most-arcs .ensures)
+    (at-wipe .wipe .ensures .0) (at-wipe .wipe .ensures .1 .0) (at-wipe .wipe .ensures .1 .1 .0) (at-wipe .wipe .ensures .1 .1 .1 .0) (at-wipe .wipe .ensures .1 .1 .1 .1 .0)
+    (at-wipe .wipe .ensures .1 .1 .1 .1 .1) (c .if2 .taken)
 
 blank-requires : tie.Need-blank-requires
 blank-requires c κs =
-    let s = c .before .before .before .before .before .before .before .before .before .before .before .before .before .before .before .before .before .before .before .before .before .before .before .before .before .before .before .before .before .before .before .before .before .before .before .before .before .before .before .before .before .before .before .before .before .before .before .before .before .before .before .before .before .before .before .before .before .before .before .before .before .before .before .before .before .before .before .before .before .before .before .before .before .before .before in
-    let b = buffersOf (s .args .dist .now) (s .args .preds .now) (s .args .offsets .now) (s .args .heads .now) (s .args .weights .now) (s .args .heap .now) (s .args .places .now) (s .args .keys .now) in
-    let w = wipes (s .args .map .bound) (s .args .map .count) (s .args .map .directed) (s .args .marks .now) (s .args .from .now) (s .args .to .now) (s .args .bits .now) (s .args .opens .now) (s .args .source) b (sym (c .before .before .before .before .before .before .before .before .before .before .before .before .before .before .before .before .before .before .before .before .before .before .before .before .before .before .before .before .before .before .before .before .before .before .before .before .before .before .before .before .before .before .before .before .before .before .before .before .before .before .before .before .before .refusal .ensures) ∙ c .before .before .before .before .before .before .before .before .before .before .before .before .before .before .before .before .before .before .before .before .before .before .before .before .before .before .before .before .before .before .before .before .before .before .before .before .before .before .before .before .before .before .before .before .before .before .before .before .before .before .before .before .if1 .left) (c .before .before .before .before .before .before .before .before .before .before .before .before .before .before .before .before .before .before .before .before .before .before .before .before .before .before .before .before .before .before .before .before .before .before .before .before .before .before .before .before .before .before .before .before .before .before .before .position-csr-f64 .ensures) (c .before .before .before .before .before .before .before .before .before .before .before .before .before .before .before .before .before .before .before .before .before .before .before .before .before .before .before .before .before .before .before .before .run .ensures) (c .before .before .before .before .before .before .before .before .before .before .before .before .before .before .before .before .before .before .before .before .before .before .before .before .before .before .before .before .before .before .before .before .before .before .before .before .before .before .before .before .before .before .before .before .before .before .before .before .before .before .before .arc-room .ensures) in
+    let at-run = c .before .before .before .before .before .before .before .before .before .before .before .before .before .before .before .before .before .before .before .before .before .before
+    .before .before .before .before .before .before .before .before .before .before in
+    let at-position-csr-f64 = at-run .before .before .before .before .before .before .before .before .before .before .before .before .before .before .before in
+    let at-most-arcs = at-position-csr-f64 .before .before .before .before in
+    let at-if1 = at-most-arcs .before in
+    let at-refusal = at-if1 .before in
+    let s = c .before .before .before .before .before .before .before .before .before .before .before .before .before .before .before .before .before .before .before .before .before .before .before
+    .before .before .before .before .before .before .before .before .before .before .before .before .before .before .before .before .before .before .before .before .before .before .before .before
+    .before .before .before .before .before .before .before .before .before .before .before .before .before .before .before .before .before .before .before .before .before .before .before .before
+    .before .before .before .before in
+    let b =
+    buffersOf (s .args .dist .now) (s .args .preds .now) (s .args .offsets .now) (s .args .heads .now) (s .args .weights .now) (s .args .peaks .now) (s .args .words .now) (s .args .keys .now) in
+    let w = wipes (s .args .map .bound) (s .args .map .count) (s .args .map .directed) (s .args .marks .now) (s .args .from .now) (s .args .to .now) (s .args .bits .now) (s .args .opens .now)
+    (s .args .source) b (sym (at-refusal .refusal .ensures) ∙ at-if1 .if1 .left) (at-position-csr-f64 .position-csr-f64 .ensures) (at-run .run .ensures) (at-most-arcs .most-arcs .ensures) in
     (omega (arith, w .lists .dist), omega (arith, w .lists .preds))
 
 same-length-17 : tie.Need-same-length-17
-same-length-17 c = c .before .before .before .before .blank .kept .1 .0 ∙ c .before .before .before .before .before .before .before .before .before .before .before .before .before .before .before .before .before .before .before .before .before .before .before .before .before .before .before .before .before .before .before .before .before .before .before .before .before .run .kept .1 .1 .1 .1 .1 .1 .0
+same-length-17 c =
+    let at-blank = c .before .before .before .before in
+    let at-run = at-blank .before .before .before .before .before .before .before .before .before .before .before .before .before .before .before .before .before .before .before .before .before
+    .before .before .before .before .before .before .before .before .before .before .before .before in
+    at-blank .blank .kept .1 .0 ∙ at-run .run .kept .1 .1 .1 .1 .1 .1 .0
 
 same-length-18 : tie.Need-same-length-18
-same-length-18 c = c .before .before .before .before .blank .kept .1 .1 .0 ∙ c .before .before .before .before .before .before .before .before .before .before .before .before .before .before .before .before .before .before .before .before .before .before .before .before .before .before .before .before .before .before .before .before .before .before .before .before .before .run .kept .1 .1 .1 .1 .1 .1 .1 .0
+same-length-18 c =
+    let at-blank = c .before .before .before .before in
+    let at-run = at-blank .before .before .before .before .before .before .before .before .before .before .before .before .before .before .before .before .before .before .before .before .before
+    .before .before .before .before .before .before .before .before .before .before .before .before in
+    at-blank .blank .kept .1 .1 .0 ∙ at-run .run .kept .1 .1 .1 .1 .1 .1 .1 .0
 
 same-length-19 : tie.Need-same-length-19
-same-length-19 c = c .before .before .before .before .before .before .before .before .before .before .before .before .before .before .before .before .before .before .before .before .wipe .kept .1 .1 .0 ∙ c .before .before .before .before .before .before .before .before .before .before .before .before .before .before .before .before .before .before .before .before .before .before .before .before .before .before .before .before .before .before .before .before .before .before .before .before .before .before .before .before .before .before .before .before .before .before .before .before .before .before .before .before .position-csr-f64 .kept .1 .1 .1 .1 .1 .0
+same-length-19 c =
+    let at-wipe = c .before .before .before .before .before .before .before .before .before .before .before .before .before .before .before .before .before .before .before .before in
+    let at-position-csr-f64 = at-wipe .before .before .before .before .before .before .before .before .before .before .before .before .before .before .before .before .before .before .before .before
+    .before .before .before .before .before .before .before .before .before .before .before .before in
+    at-wipe .wipe .kept .1 .1 .0 ∙ at-position-csr-f64 .position-csr-f64 .kept .1 .1 .1 .1 .1 .0
 
 same-length-20 : tie.Need-same-length-20
-same-length-20 c = c .before .before .before .before .before .before .before .before .before .before .before .before .before .before .before .before .before .before .before .before .wipe .kept .1 .1 .1 .0 ∙ c .before .before .before .before .before .before .before .before .before .before .before .before .before .before .before .before .before .before .before .before .before .before .before .before .before .before .before .before .before .before .before .before .before .before .before .before .before .before .before .before .before .before .before .before .before .before .before .before .before .before .before .before .position-csr-f64 .kept .1 .1 .1 .1 .1 .1 .0
+same-length-20 c =
+    let at-wipe = c .before .before .before .before .before .before .before .before .before .before .before .before .before .before .before .before .before .before .before .before in
+    let at-position-csr-f64 = at-wipe .before .before .before .before .before .before .before .before .before .before .before .before .before .before .before .before .before .before .before .before
+    .before .before .before .before .before .before .before .before .before .before .before .before in
+    at-wipe .wipe .kept .1 .1 .1 .0 ∙ at-position-csr-f64 .position-csr-f64 .kept .1 .1 .1 .1 .1 .1 .0
 
 same-length-21 : tie.Need-same-length-21
-same-length-21 c = c .before .before .before .before .before .before .before .before .before .before .before .before .before .before .before .before .before .before .before .before .wipe .kept .1 .1 .1 .1 .0 ∙ c .before .before .before .before .before .before .before .before .before .before .before .before .before .before .before .before .before .before .before .before .before .before .before .before .before .before .before .before .before .before .before .before .before .before .before .before .before .before .before .before .before .before .before .before .before .before .before .before .before .before .before .before .position-csr-f64 .kept .1 .1 .1 .1 .1 .1 .1 .0
+same-length-21 c =
+    let at-wipe = c .before .before .before .before .before .before .before .before .before .before .before .before .before .before .before .before .before .before .before .before in
+    let at-position-csr-f64 = at-wipe .before .before .before .before .before .before .before .before .before .before .before .before .before .before .before .before .before .before .before .before
+    .before .before .before .before .before .before .before .before .before .before .before .before in
+    at-wipe .wipe .kept .1 .1 .1 .1 .0 ∙ at-position-csr-f64 .position-csr-f64 .kept .1 .1 .1 .1 .1 .1 .1 .0
 
 same-length-22 : tie.Need-same-length-22
-same-length-22 c = c .before .before .before .before .before .before .before .before .before .before .before .before .before .before .before .before .before .before .before .before .wipe .kept .1 .1 .1 .1 .1 .0 ∙ c .before .before .before .before .before .before .before .before .before .before .before .before .before .before .before .before .before .before .before .before .before .before .before .before .before .before .before .before .before .before .before .before .before .before .before .before .before .run .kept .1 .1 .1 .1 .1 .1 .1 .1 .0
+same-length-22 c =
+    let at-wipe = c .before .before .before .before .before .before .before .before .before .before .before .before .before .before .before .before .before .before .before .before in
+    let at-run = at-wipe .before .before .before .before .before .before .before .before .before .before .before .before .before .before .before .before .before in
+    at-wipe .wipe .kept .1 .1 .1 .1 .1 .0 ∙ at-run .run .kept .1 .1 .1 .1 .1 .1 .1 .1 .0
 
 same-length-23 : tie.Need-same-length-23
-same-length-23 c = c .before .before .before .before .before .before .before .before .before .before .before .before .before .before .before .before .before .before .before .before .wipe .kept .1 .1 .1 .1 .1 .1 .0 ∙ c .before .before .before .before .before .before .before .before .before .before .before .before .before .before .before .before .before .before .before .before .before .before .before .before .before .before .before .before .before .before .before .before .before .before .before .before .before .run .kept .1 .1 .1 .1 .1 .1 .1 .1 .1 .0
+same-length-23 c =
+    let at-wipe = c .before .before .before .before .before .before .before .before .before .before .before .before .before .before .before .before .before .before .before .before in
+    let at-run = at-wipe .before .before .before .before .before .before .before .before .before .before .before .before .before .before .before .before .before in
+    at-wipe .wipe .kept .1 .1 .1 .1 .1 .1 .0 ∙ at-run .run .kept .1 .1 .1 .1 .1 .1 .1 .1 .1 .0
 
 same-length-24 : tie.Need-same-length-24
-same-length-24 c = c .before .before .before .before .before .before .before .before .before .before .before .before .before .before .before .before .before .before .before .before .wipe .kept .1 .1 .1 .1 .1 .1 .1 .0 ∙ c .before .before .before .before .before .before .before .before .before .before .before .before .before .before .before .before .before .before .before .before .before .before .before .before .before .before .before .before .before .before .before .before .before .before .before .before .before .run .kept .1 .1 .1 .1 .1 .1 .1 .1 .1 .1 .0
+same-length-24 c =
+    let at-wipe = c .before .before .before .before .before .before .before .before .before .before .before .before .before .before .before .before .before .before .before .before in
+    let at-run = at-wipe .before .before .before .before .before .before .before .before .before .before .before .before .before .before .before .before .before in
+    at-wipe .wipe .kept .1 .1 .1 .1 .1 .1 .1 .0 ∙ at-run .run .kept .1 .1 .1 .1 .1 .1 .1 .1 .1 .1 .0
 
 returns-3 : tie.Need-returns-3
 returns-3 c =
-    let s = c .before .before .before .before .before .before .before .before .before .before .before .before .before .before .before .before .before .before .before .before .before .before .before .before .before .before .before .before .before .before .before .before .before .before .before .before .before .before .before .before .before .before .before .before .before .before .before .before .before .before .before .before .before .before .before .before .before .before .before .before .before .before .before .before .before .before .before .before .before .before .before .before .before .before .before .before .before .before .before .before in
-    let b = buffersOf (s .args .dist .now) (s .args .preds .now) (s .args .offsets .now) (s .args .heads .now) (s .args .weights .now) (s .args .heap .now) (s .args .places .now) (s .args .keys .now) in
-    answer-bad (s .args .map .bound) (s .args .map .count) (s .args .map .directed) (s .args .marks .now) (s .args .from .now) (s .args .to .now) (s .args .bits .now) (s .args .opens .now) (s .args .source) b (sym (c .before .before .before .before .before .before .before .before .before .before .before .before .before .before .before .before .before .before .before .before .before .before .before .before .before .before .before .before .before .before .before .before .before .before .before .before .before .before .before .before .before .before .before .before .before .before .before .before .before .before .before .before .before .before .before .before .before .before .refusal .ensures) ∙ c .before .before .before .before .before .before .before .before .before .before .before .before .before .before .before .before .before .before .before .before .before .before .before .before .before .before .before .before .before .before .before .before .before .before .before .before .before .before .before .before .before .before .before .before .before .before .before .before .before .before .before .before .before .before .before .before .before .if1 .left) (c .before .before .before .before .before .before .before .before .before .before .before .before .before .before .before .before .before .before .before .before .before .before .before .before .before .before .before .before .before .before .before .before .before .before .before .before .before .before .before .before .before .before .before .before .before .before .before .before .before .before .before .before .position-csr-f64 .ensures) (c .before .before .before .before .before .before .before .before .before .before .before .before .before .before .before .before .before .before .before .before .before .before .before .before .before .before .before .before .before .before .before .before .before .before .before .before .before .run .ensures) (c .before .before .before .before .before .before .before .before .before .before .before .before .before .before .before .before .before .before .before .before .before .before .before .before .before .before .before .before .before .before .before .before .before .before .before .before .before .before .before .before .before .before .before .before .before .before .before .before .before .before .before .before .before .before .before .before .arc-room .ensures) (c .before .before .before .before .before .before .before .before .before .before .before .before .before .before .before .before .before .before .before .before .wipe .ensures .0) (c .before .before .before .before .before .before .before .before .before .before .before .before .before .before .before .before .before .before .before .before .wipe .ensures .1 .0) (c .before .before .before .before .before .before .before .before .before .before .before .before .before .before .before .before .before .before .before .before .wipe .ensures .1 .1 .0) (c .before .before .before .before .before .before .before .before .before .before .before .before .before .before .before .before .before .before .before .before .wipe .ensures .1 .1 .1 .0) (c .before .before .before .before .before .before .before .before .before .before .before .before .before .before .before .before .before .before .before .before .wipe .ensures .1 .1 .1 .1 .0) (c .before .before .before .before .before .before .before .before .before .before .before .before .before .before .before .before .before .before .before .before .wipe .ensures .1 .1 .1 .1 .1) (c .before .before .before .before .before .before .before .if2 .left) (c .before .before .before .before .blank .ensures .0) (c .before .before .before .before .blank .ensures .1)
+    let at-blank = c .before .before .before .before in
+    let at-if2 = at-blank .before .before .before in
+    let at-wipe = at-if2 .before .before .before .before .before .before .before .before .before .before .before .before .before in
+    let at-run = at-wipe .before .before .before .before .before .before .before .before .before .before .before .before .before .before .before .before .before in
+    let at-position-csr-f64 = at-run .before .before .before .before .before .before .before .before .before .before .before .before .before .before .before in
+    let at-most-arcs = at-position-csr-f64 .before .before .before .before in
+    let at-if1 = at-most-arcs .before in
+    let at-refusal = at-if1 .before in
+    let s = c .before .before .before .before .before .before .before .before .before .before .before .before .before .before .before .before .before .before .before .before .before .before .before
+    .before .before .before .before .before .before .before .before .before .before .before .before .before .before .before .before .before .before .before .before .before .before .before .before
+    .before .before .before .before .before .before .before .before .before .before .before .before .before .before .before .before .before .before .before .before .before .before .before .before
+    .before .before .before .before .before .before .before .before .before in
+    let b =
+    buffersOf (s .args .dist .now) (s .args .preds .now) (s .args .offsets .now) (s .args .heads .now) (s .args .weights .now) (s .args .peaks .now) (s .args .words .now) (s .args .keys .now) in
+    answer-bad (s .args .map .bound) (s .args .map .count) (s .args .map .directed) (s .args .marks .now) (s .args .from .now) (s .args .to .now) (s .args .bits .now) (s .args .opens .now)
+    (s .args .source) b (sym (at-refusal .refusal .ensures) ∙ at-if1 .if1 .left) (at-position-csr-f64 .position-csr-f64 .ensures) (at-run .run .ensures) (at-most-arcs .most-arcs .ensures)
+    (at-wipe .wipe .ensures .0) (at-wipe .wipe .ensures .1 .0) (at-wipe .wipe .ensures .1 .1 .0) (at-wipe .wipe .ensures .1 .1 .1 .0) (at-wipe .wipe .ensures .1 .1 .1 .1 .0)
+    (at-wipe .wipe .ensures .1 .1 .1 .1 .1) (at-if2 .if2 .left) (at-blank .blank .ensures .0) (at-blank .blank .ensures .1)
 
 pub dijkstra-path-impl-spec : {M : Type 1} → statement M
 dijkstra-path-impl-spec =
@@ -147,7 +268,7 @@ dijkstra-path-impl-spec =
     same-length-7
     same-length-8
     returns
-    arc-room-requires
+    most-arcs-requires
     position-csr-f64-requires
     run-requires
     wipe-requires

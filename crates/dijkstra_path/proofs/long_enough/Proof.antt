@@ -27,23 +27,80 @@ returns-4 c = simp (le-leb _ _ (c .before .before .before .if1 .left), le-leb _ 
 
 returns-5 : tie.Need-returns-5
 unfolding longEnough
-returns-5 c = simp (le-leb _ _ (c .before .before .before .before .if1 .left), le-leb _ _ (c .before .before .before .if2 .left), le-leb _ _ (c .before .before .if3 .left), le-leb _ _ (c .before .if4 .left), lt-leb _ _ (c .if5 .taken))
+returns-5 c =
+    let at-if2 = c .before .before .before in
+    let at-if1 = at-if2 .before in
+    simp (le-leb _ _ (at-if1 .if1 .left), le-leb _ _ (at-if2 .if2 .left), le-leb _ _ (c .before .before .if3 .left), le-leb _ _ (c .before .if4 .left), lt-leb _ _ (c .if5 .taken))
 
 returns-6 : tie.Need-returns-6
 unfolding longEnough
-returns-6 c = simp (le-leb _ _ (c .before .before .before .before .before .if1 .left), le-leb _ _ (c .before .before .before .before .if2 .left), le-leb _ _ (c .before .before .before .if3 .left), le-leb _ _ (c .before .before .if4 .left), le-leb _ _ (c .before .if5 .left), lt-leb _ _ (c .if6 .taken))
+returns-6 c =
+    let at-if3 = c .before .before .before in
+    let at-if2 = at-if3 .before in
+    let at-if1 = at-if2 .before in
+    simp (
+      le-leb _ _ (at-if1 .if1 .left),
+      le-leb _ _ (at-if2 .if2 .left),
+      le-leb _ _ (at-if3 .if3 .left),
+      le-leb _ _ (c .before .before .if4 .left),
+      le-leb _ _ (c .before .if5 .left),
+      lt-leb _ _ (c .if6 .taken),
+    )
 
 returns-7 : tie.Need-returns-7
 unfolding longEnough
-returns-7 c = simp (le-leb _ _ (c .before .before .before .before .before .before .if1 .left), le-leb _ _ (c .before .before .before .before .before .if2 .left), le-leb _ _ (c .before .before .before .before .if3 .left), le-leb _ _ (c .before .before .before .if4 .left), le-leb _ _ (c .before .before .if5 .left), le-leb _ _ (c .before .if6 .left), lt-leb _ _ (c .if7 .taken))
+returns-7 c =
+    let at-if4 = c .before .before .before in
+    let at-if3 = at-if4 .before in
+    let at-if2 = at-if3 .before in
+    let at-if1 = at-if2 .before in
+    simp (
+      le-leb _ _ (at-if1 .if1 .left),
+      le-leb _ _ (at-if2 .if2 .left),
+      le-leb _ _ (at-if3 .if3 .left),
+      le-leb _ _ (at-if4 .if4 .left),
+      le-leb _ _ (c .before .before .if5 .left),
+      le-leb _ _ (c .before .if6 .left),
+      lt-leb _ _ (c .if7 .taken),
+    )
 
 returns-8 : tie.Need-returns-8
 unfolding longEnough
-returns-8 c = simp (le-leb _ _ (c .before .before .before .before .before .before .before .if1 .left), le-leb _ _ (c .before .before .before .before .before .before .if2 .left), le-leb _ _ (c .before .before .before .before .before .if3 .left), le-leb _ _ (c .before .before .before .before .if4 .left), le-leb _ _ (c .before .before .before .if5 .left), le-leb _ _ (c .before .before .if6 .left), le-leb _ _ (c .before .if7 .left), lt-leb _ _ (c .if8 .taken))
+returns-8 c =
+    let at-if5 = c .before .before .before in
+    let at-if4 = at-if5 .before in
+    let at-if3 = at-if4 .before in
+    let at-if2 = at-if3 .before in
+    let at-if1 = at-if2 .before in
+    simp (
+      le-leb _ _ (at-if1 .if1 .left),
+      le-leb _ _ (at-if2 .if2 .left),
+      le-leb _ _ (at-if3 .if3 .left),
+      le-leb _ _ (at-if4 .if4 .left),
+      le-leb _ _ (at-if5 .if5 .left),
+      le-leb _ _ (c .before .before .if6 .left),
+      le-leb _ _ (c .before .if7 .left),
+      lt-leb _ _ (c .if8 .taken),
+    )
 
 returns-9 : tie.Need-returns-9
 unfolding longEnough
-returns-9 c = simp (le-leb _ _ (c .before .before .before .before .before .before .before .if1 .left), le-leb _ _ (c .before .before .before .before .before .before .if2 .left), le-leb _ _ (c .before .before .before .before .before .if3 .left), le-leb _ _ (c .before .before .before .before .if4 .left), le-leb _ _ (c .before .before .before .if5 .left), le-leb _ _ (c .before .before .if6 .left), le-leb _ _ (c .before .if7 .left), le-leb _ _ (c .if8 .left))
+returns-9 c =
+    let at-if5 = c .before .before .before in
+    let at-if4 = at-if5 .before in
+    let at-if3 = at-if4 .before in
+    let at-if2 = at-if3 .before in
+    let at-if1 = at-if2 .before in
+    simp (
+      le-leb _ _ (at-if1 .if1 .left),
+      le-leb _ _ (at-if2 .if2 .left),
+      le-leb _ _ (at-if3 .if3 .left),
+      le-leb _ _ (at-if4 .if4 .left),
+      le-leb _ _ (at-if5 .if5 .left),
+      le-leb _ _ (c .before .before .if6 .left),
+      le-leb _ _ (c .before .if7 .left),
+      le-leb _ _ (c .if8 .left),
+    )
 
 pub long-enough-spec : {M : Type 1} → statement M
 long-enough-spec =

@@ -1,7 +1,7 @@
 -- `dimetumble::dimetumble_page` meets its contract: the byte of a yes is 1, of a no 0.
 -- Assumes nothing.
 use borrow.Author.Needs.{needs}
-use mathlib.Core.Path.{_≡_, refl, sym}
+use mathlib.Core.Path.{_≡_, refl}
 use mathlib.Core.Bool.{Bool, true, false}
 use Prim.Native.Nat.{_≤_}
 use native.Mathlib.Omega.{arith}

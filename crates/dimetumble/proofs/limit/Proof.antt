@@ -3,7 +3,6 @@
 use mathlib.Core.Path.{sym, ap}
 use mathlib.Core.Bool.{Bool, cond, not}
 use borrow.Author.Tests.{eq-eqb, ne-eqb}
-use Rattle.float.specs.declared.Cutoff.{Cutoff}
 use Rattle.float.specs.declared.Cutoff.the-variants.{None, At}
 use Rattle.dimetumble.specs.Flags.{limitOf}
 use Rattle.dimetumble.proofs.limit.Statement.{statement}

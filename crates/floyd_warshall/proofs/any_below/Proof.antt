@@ -29,8 +29,13 @@ small w =
     omega (arith, s .pre .short, s .pre .early)
 
 -- the test, of the number itself
-tested : (c : tie.After-lower Inv-loop μ-loop) → c .lower .result ≡ ltZ (getD (c .before .before .before .before .args .cells .now) (c .before .before .before .before .args .first + c .before .before .before .loop .i * c .before .before .before .before .args .step) (pos 0)) (pos 0)
-tested c = read-below (getD (c .before .before .before .before .args .cells .now) (c .before .before .before .before .args .first + c .before .before .before .loop .i * c .before .before .before .before .args .step) (pos 0)) (c .lower .result) (sfits-of (c .before .lower-arg .given)) (c .lower .ensures)
+tested : (c : tie.After-lower Inv-loop μ-loop)
+    → c .lower .result ≡ ltZ (getD (c .before .before .before .before .args .cells .now)
+    (c .before .before .before .before .args .first + c .before .before .before .loop .i * c .before .before .before .before .args .step) (pos 0)) (pos 0)
+tested c =
+    let at-loop = c .before .before .before in
+    let start = at-loop .before in
+    read-below (getD (start .args .cells .now) (start .args .first + at-loop .loop .i * start .args .step) (pos 0)) (c .lower .result) (sfits-of (c .before .lower-arg .given)) (c .lower .ensures)
 
 loop-holds : tie.Need-loop-holds Inv-loop μ-loop
 loop-holds c = (omega arith, nothing-below _ _ _)

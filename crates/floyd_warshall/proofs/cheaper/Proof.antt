@@ -21,11 +21,16 @@ cast-c c = rw (toZ-ofZ w32 (c .args .cost) (c .fits .cost)) (widen (c .fits .cos
 
 returns : tie.Need-returns
 unfolding lesser
-returns c = let s = c .before in rd32 (s .args .cost) (s .fits .cost) ∙ sym (ap (λ (t : Bool). pickZ t (s .args .cost) (s .args .old)) (tested (s .args .old) (s .args .cost) true (s .fits .old) (s .fits .cost) (c .if1 .taken)))
+returns c =
+    let s = c .before in
+    rd32 (s .args .cost) (s .fits .cost) ∙ sym (ap (λ (t : Bool). pickZ t (s .args .cost) (s .args .old)) (tested (s .args .old) (s .args .cost) true (s .fits .old) (s .fits .cost) (c .if1 .taken)))
 
 returns-2 : tie.Need-returns-2
 unfolding lesser
-returns-2 c = let s = c .before in toZ-ofZ w64 (s .args .old) (s .fits .old) ∙ sym (ap (λ (t : Bool). pickZ t (s .args .cost) (s .args .old)) (tested (s .args .old) (s .args .cost) false (s .fits .old) (s .fits .cost) (c .if1 .left)))
+returns-2 c =
+    let s = c .before in
+    toZ-ofZ w64 (s .args .old) (s .fits .old)
+    ∙ sym (ap (λ (t : Bool). pickZ t (s .args .cost) (s .args .old)) (tested (s .args .old) (s .args .cost) false (s .fits .old) (s .fits .cost) (c .if1 .left)))
 
 pub cheaper-spec : {M : Type 1} → statement M
 cheaper-spec = tie.close (tie.spec cast-c returns returns-2)

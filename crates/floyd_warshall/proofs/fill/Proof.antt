@@ -33,11 +33,18 @@ module _ (h : tie.At-loop Inv-loop μ-loop) where
   longs : (start .args .map .count ≤ length (start .args .from .now)) × (start .args .map .count ≤ length (start .args .to .now)) × (start .args .map .count ≤ length (start .args .costs .now))
   longs = long-ints (start .args .map .bound) _ (start .args .map .directed) (start .args .marks .now) _ _ _ (start .pre .0 .whole)
 
-  map-whole : Whole (netOf (start .args .map .bound) (start .args .map .count) (start .args .map .directed) (start .args .marks .now) (start .args .from .now) (start .args .to .now) (start .args .costs .now))
+  map-whole : Whole
+      (netOf (start .args .map .bound) (start .args .map .count) (start .args .map .directed) (start .args .marks .now) (start .args .from .now) (start .args .to .now) (start .args .costs .now))
   map-whole = whole-ints (start .args .map .bound) _ (start .args .map .directed) (start .args .marks .now) _ _ _ (start .pre .0 .whole)
 
-  link : h .loop .e < start .args .map .count → LinkAt (start .args .ranks .now) (width (netOf (start .args .map .bound) (start .args .map .count) (start .args .map .directed) (start .args .marks .now) (start .args .from .now) (start .args .to .now) (start .args .costs .now))) (getD (start .args .from .now) (h .loop .e) 0) (getD (start .args .to .now) (h .loop .e) 0)
-  link i = link-at (start .args .map .bound) (start .args .map .count) (start .args .map .directed) (start .args .marks .now) (start .args .from .now) (start .args .to .now) (start .args .costs .now) (start .args .ranks .now) (start .pre .0) (start .pre .1) (h .loop .e) i
+  link : h .loop .e < start .args .map .count
+      → LinkAt (start .args .ranks .now)
+      (width
+      (netOf (start .args .map .bound) (start .args .map .count) (start .args .map .directed) (start .args .marks .now) (start .args .from .now) (start .args .to .now) (start .args .costs .now)))
+      (getD (start .args .from .now) (h .loop .e) 0) (getD (start .args .to .now) (h .loop .e) 0)
+  link i =
+      link-at (start .args .map .bound) (start .args .map .count) (start .args .map .directed) (start .args .marks .now) (start .args .from .now) (start .args .to .now) (start .args .costs .now)
+      (start .args .ranks .now) (start .pre .0) (start .pre .1) (h .loop .e) i
 
 loop-holds : tie.Need-loop-holds Inv-loop μ-loop
 loop-holds c = record { within = omega arith; fits = λ x h. absurd (omega arith); size = refl; same = refl }

@@ -80,8 +80,12 @@ solve-requires : tie.Need-solve-requires
 solve-requires c κs =
     let k = c .before .before .before .before in
     let n = k .before .before in
-    let e = n .before in
-    (sound (lent e) _ _ (no-refusal e), ranked-of (lent e) _ _ (no-refusal e) (k .set-ranks .ensures), rows n, record { few = few-rows n; size = length-take-le (n .count-present .result * n .count-present .result) (start e .args .matrix .now) (room n) })
+    let e = n .before in (
+      sound (lent e) _ _ (no-refusal e),
+      ranked-of (lent e) _ _ (no-refusal e) (k .set-ranks .ensures),
+      rows n,
+      record { few = few-rows n; size = length-take-le (n .count-present .result * n .count-present .result) (start e .args .matrix .now) (room n) },
+    )
 
 clear-usize-requires : tie.Need-clear-usize-requires
 clear-usize-requires c κs = let k = c .before .before .before .before .before .before .before in omega (arith, k .set-ranks .ensures .long, ready (k .before .before .before) .scratch)
@@ -94,19 +98,24 @@ blank-i64-requires c κs =
 
 returns-2 : tie.Need-returns-2
 returns-2 c =
+    let at-if2 = c .before .before .before in
+    let at-clear-usize = at-if2 .before .before .before in
     let a = c .before .before .before .before .before .before .before .before .before in
     let k = a .before .before .before .before .before in
     let n = counted a in
     let e = n .before in
-    answer-negative (lent e) _ _ (no-refusal e) (rows n) (solved a) (solved-long a) (k .set-ranks .ensures) (c .before .before .before .before .before .before .clear-usize .ensures) (a .solve .result) (a .solve .ensures) (c .before .before .before .if2 .taken) (c .before .blank-i64 .ensures)
+    answer-negative (lent e) _ _ (no-refusal e) (rows n) (solved a) (solved-long a) (k .set-ranks .ensures) (at-clear-usize .clear-usize .ensures) (a .solve .result) (a .solve .ensures)
+    (at-if2 .if2 .taken) (c .before .blank-i64 .ensures)
 
 returns-3 : tie.Need-returns-3
 returns-3 c =
+    let at-clear-usize = c .before .before .before in
     let a = c .before .before .before .before .before .before in
     let k = a .before .before .before .before .before in
     let n = counted a in
     let e = n .before in
-    answer-done (lent e) _ _ (no-refusal e) (rows n) (solved a) (solved-long a) (k .set-ranks .ensures) (c .before .before .before .clear-usize .ensures) (a .solve .result) (a .solve .ensures) (c .if2 .left) refl
+    answer-done (lent e) _ _ (no-refusal e) (rows n) (solved a) (solved-long a) (k .set-ranks .ensures) (at-clear-usize .clear-usize .ensures) (a .solve .result) (a .solve .ensures) (c .if2 .left)
+    refl
 
 pub floyd-warshall-spec : {M : Type 1} → statement M
 floyd-warshall-spec =

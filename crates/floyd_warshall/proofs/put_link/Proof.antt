@@ -52,7 +52,8 @@ once : (c : tie.After-cheaper) → stored c ≡ lowered (c .before .before .args
 once c =
     let s = c .before .before in
     lowered-is (s .args .cells .now) (x s) (s .args .cost) (toZ w64 (ofZ w64 (c .cheaper .result)))
-    (read-cheaper (getD (s .args .cells .now) (x s) (pos 0)) (s .args .cost) (c .cheaper .result) (sfits-of (c .before .cheaper-arg .given)) (s .fits .cost) (sfits-of (c .cheaper .ok)) (c .cheaper .ensures))
+    (read-cheaper (getD (s .args .cells .now) (x s) (pos 0)) (s .args .cost) (c .cheaper .result) (sfits-of (c .before .cheaper-arg .given)) (s .fits .cost) (sfits-of (c .cheaper .ok))
+    (c .cheaper .ensures))
 
 returns : tie.Need-returns
 returns c = once (c .before) ∙ sym (linked-one (c .before .before .before .args .directed) _ _ _ _ _ (c .if1 .taken))
@@ -62,7 +63,8 @@ returns-2 c =
     let o = c .before .before .before in
     let s = o .before .before in
     let k = s .args .cost in
-    (lowered-is (stored o) (y s) k (toZ w64 (ofZ w64 (c .cheaper2 .result))) (read-cheaper (getD (stored o) (y s) (pos 0)) k (c .cheaper2 .result) (sfits-of (c .before .cheaper-arg2 .given)) (s .fits .cost) (sfits-of (c .cheaper2 .ok)) (c .cheaper2 .ensures))
+    (lowered-is (stored o) (y s) k (toZ w64 (ofZ w64 (c .cheaper2 .result)))
+    (read-cheaper (getD (stored o) (y s) (pos 0)) k (c .cheaper2 .result) (sfits-of (c .before .cheaper-arg2 .given)) (s .fits .cost) (sfits-of (c .cheaper2 .ok)) (c .cheaper2 .ensures))
     ∙ ap (λ (t : List ℤ). lowered t (y s) k) (once o))
     ∙ sym (linked-two (s .args .directed) _ _ _ _ _ (c .before .before .if1 .left))
 

@@ -2,7 +2,7 @@
 -- Assumes nothing.
 use mathlib.Core.Path.{_≡_, sym, ap, _∙_, subst}
 use mathlib.Core.Bool.{Bool}
-use Prim.Native.Nat.{_+_, _^_, _≤_}
+use Prim.Native.Nat.{_^_}
 use native.Mathlib.Omega.{arith}
 use lib.IntN.{ℤ}
 use lib.Signed.{ltZ}
@@ -28,7 +28,8 @@ add-s c = subst (SFits w64) (sym (machine-sum (c .args .a) (c .args .b) (c .fits
 sum-is : (s : tie.Start) → toZ w64 (ofZ w64 (toZ w64 (ofZ w64 (s .args .a)) ⊕ toZ w64 (ofZ w64 (s .args .b)))) ≡ s .args .a ⊕ s .args .b
 sum-is s = toZ-ofZ w64 _ (add-s s) ∙ machine-sum (s .args .a) (s .args .b) (s .fits .a) (s .fits .b)
 
-picked : (s : tie.Start) {t : Bool} → ltZ (toZ w64 (ofZ w64 (toZ w64 (ofZ w64 (s .args .a)) ⊕ toZ w64 (ofZ w64 (s .args .b))))) (toZ w64 (ofZ w64 (s .args .old))) ≡ t → lesser (s .args .old) (s .args .a ⊕ s .args .b) ≡ pickZ t (s .args .a ⊕ s .args .b) (s .args .old)
+picked : (s : tie.Start) {t : Bool} → ltZ (toZ w64 (ofZ w64 (toZ w64 (ofZ w64 (s .args .a)) ⊕ toZ w64 (ofZ w64 (s .args .b))))) (toZ w64 (ofZ w64 (s .args .old))) ≡ t
+    → lesser (s .args .old) (s .args .a ⊕ s .args .b) ≡ pickZ t (s .args .a ⊕ s .args .b) (s .args .old)
 unfolding lesser
 picked s e = ap (λ (t : Bool). pickZ t (s .args .a ⊕ s .args .b) (s .args .old)) (sym (λ i. ltZ (sum-is s i) (toZ-ofZ w64 (s .args .old) (s .fits .old) i)) ∙ e)
 

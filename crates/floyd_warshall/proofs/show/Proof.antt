@@ -29,7 +29,13 @@ loop-less : tie.Need-loop-less Inv-loop μ-loop
 loop-less c = omega (arith, c .before .before .before .loop .inv .size)
 
 loop-again : tie.Need-loop-again Inv-loop μ-loop
-loop-again c = let w = c .before .before in showing-more (w .before .before .args .cells .now) (w .before .loop .x) (w .before .loop .cells) (toZ w64 (ofZ w64 (c .shown-of .result))) (omega arith) (read-shown (getD (w .before .loop .cells) (w .before .loop .x) (pos 0)) (c .shown-of .result) (sfits-of (c .before .shown-of-arg .given)) (sfits-of (c .shown-of .ok)) (c .shown-of .ensures)) (w .before .loop .inv)
+loop-again c =
+    let w = c .before .before in
+    showing-more (w .before .before .args .cells .now) (w .before .loop .x) (w .before .loop .cells) (toZ w64 (ofZ w64 (c .shown-of .result))) (omega arith)
+    (read-shown (getD (w .before .loop .cells) (w .before .loop .x) (pos 0)) (c .shown-of .result) (sfits-of (c .before .shown-of-arg .given)) (sfits-of (c .shown-of .ok)) (c .shown-of .ensures))
+    (w .before .loop .inv)
 
 pub show-spec : {M : Type 1} → statement M
-show-spec = tie.close (tie.spec Inv-loop μ-loop loop-holds (λ c. search needs) (λ c. search needs) (λ c κs. search needs) (λ c. search needs) (λ c. search needs) add-x loop-less loop-again (λ c. c .before .loop .inv .size) (λ c. all-shown _ _ _ (omega arith) (c .before .loop .inv)))
+show-spec =
+    tie.close (tie.spec Inv-loop μ-loop loop-holds (λ c. search needs) (λ c. search needs) (λ c κs. search needs) (λ c. search needs) (λ c. search needs) add-x loop-less loop-again
+    (λ c. c .before .loop .inv .size) (λ c. all-shown _ _ _ (omega arith) (c .before .loop .inv)))

@@ -26,7 +26,8 @@ loop-holds : tie.Need-loop-holds Inv-loop μ-loop
 loop-holds c = let s = c .before .before .before in starting-first (s .args .p) (s .args .cells .now) (c .before .fill-far .last .0) (s .pre) (c .before .fill-far .ensures)
 
 -- the place of a diagonal entry
-placed : (w : tie.In-loop Inv-loop μ-loop) → (w .before .loop .i * w .before .before .before .before .before .args .p + w .before .loop .i < length (w .before .loop .cells)) × (length (w .before .loop .cells) ≤ 1048576)
+placed : (w : tie.In-loop Inv-loop μ-loop)
+    → (w .before .loop .i * w .before .before .before .before .before .args .p + w .before .loop .i < length (w .before .loop .cells)) × (length (w .before .loop .cells) ≤ 1048576)
 placed w =
     let s = w .before .before .before .before .before in
     let r = w .before .loop .inv in

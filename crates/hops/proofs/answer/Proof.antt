@@ -5,14 +5,18 @@ use Rattle.hops.proofs.answer.Statement.{statement}
 use Rattle.hops.proofs.answer.Tie as tie
 use Rattle.hops.proofs.Answers.{room-after, answered}
 
-arc-room-requires : tie.Need-arc-room-requires
-arc-room-requires c κs = c .before .before .before .before .before .before .before .before .before .pre .ready .few
+most-arcs-requires : tie.Need-most-arcs-requires
+most-arcs-requires c κs = c .before .before .before .before .before .before .before .before .before .pre .ready .few
 
 solve-requires : tie.Need-solve-requires
 solve-requires c κs = c .before .before .before .before .before .before .before .before .before .before .before .before .before .before .before .before .pre
 
 wipe-requires : tie.Need-wipe-requires
-wipe-requires c κs = room-after (c .before .before .before .before .before .before .before .before .before .before .before .before .before .before .before .before .before .before .before .before .before .before .before .before .before .before .before .before .before .before .before .before .before .pre) (c .before .before .before .before .before .before .before .before .before .before .before .before .before .before .before .before .before .before .before .before .before .before .before .arc-room .ensures) (c .before .before .before .before .before .before .before .before .before .before .before .before .before .before .before .before .solve .ensures)
+wipe-requires c κs =
+    let at-solve = c .before .before .before .before .before .before .before .before .before .before .before .before .before .before .before .before in
+    let at-most-arcs = at-solve .before .before .before .before .before .before .before in
+    let start = at-most-arcs .before .before .before .before .before .before .before .before .before .before in
+    room-after (start .pre) (at-most-arcs .most-arcs .ensures) (at-solve .solve .ensures)
 
 same-length : tie.Need-same-length
 same-length c = search needs
@@ -33,13 +37,18 @@ same-length-6 : tie.Need-same-length-6
 same-length-6 c = search needs
 
 returns : tie.Need-returns
-returns c = answered (c .before .before .before .before .before .before .before .before .before .before .before .before .before .before .before .before .before .before .before .before .before .before .before .before .before .before .before .before .before .before .before .before .before .before .before .before .before .before .before .before .before .before .pre) (c .before .before .before .before .before .before .before .before .before .before .before .before .before .before .before .before .before .before .before .before .before .before .before .before .before .before .before .before .before .before .before .before .arc-room .ensures) (c .before .before .before .before .before .before .before .before .before .before .before .before .before .before .before .before .before .before .before .before .before .before .before .before .before .solve .ensures) (c .before .before .before .before .before .before .before .before .wipe .ensures)
+returns c =
+    let at-wipe = c .before .before .before .before .before .before .before .before in
+    let at-solve = at-wipe .before .before .before .before .before .before .before .before .before .before .before .before .before .before .before .before .before in
+    let at-most-arcs = at-solve .before .before .before .before .before .before .before in
+    let start = at-most-arcs .before .before .before .before .before .before .before .before .before .before in
+    answered (start .pre) (at-most-arcs .most-arcs .ensures) (at-solve .solve .ensures) (at-wipe .wipe .ensures)
 
 pub answer-spec : {M : Type 1} → statement M
 answer-spec =
     tie.close
     (tie.spec
-    arc-room-requires
+    most-arcs-requires
     solve-requires
     wipe-requires
     same-length

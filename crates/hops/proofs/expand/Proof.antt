@@ -18,7 +18,9 @@ mul-next : tie.Need-mul-next Inv-loop μ-loop
 mul-next c = let h = row-at (c .before .before .before .before .pre .0) (c .before .before .before .before .pre .1) in omega (arith, h, c .before .before .before .before .pre .0 .bounded)
 
 slice-read-next : tie.Need-slice-read-next Inv-loop μ-loop
-slice-read-next c = let h = row-at (c .before .before .before .before .before .pre .0) (c .before .before .before .before .before .pre .1) in omega (arith, h, c .before .before .before .before .before .pre .1 .good .roomL)
+slice-read-next c =
+    let start = c .before .before .before .before .before in
+    let h = row-at (start .pre .0) (start .pre .1) in omega (arith, h, start .pre .1 .good .roomL)
 
 add-next : tie.Need-add-next Inv-loop μ-loop
 add-next c =
@@ -26,28 +28,42 @@ add-next c =
     omega (arith, label-few (x .pre .0) (x .pre .1), x .pre .0 .bounded)
 
 add-end : tie.Need-add-end Inv-loop μ-loop
-add-end c = let h = row-at (c .before .before .before .before .before .pre .0) (c .before .before .before .before .before .pre .1) in omega (arith, h, c .before .before .before .before .before .pre .0 .bounded)
+add-end c =
+    let start = c .before .before .before .before .before in
+    let h = row-at (start .pre .0) (start .pre .1) in omega (arith, h, start .pre .0 .bounded)
 
 mul-end : tie.Need-mul-end Inv-loop μ-loop
-mul-end c = let h = row-at (c .before .before .before .before .before .pre .0) (c .before .before .before .before .before .pre .1) in omega (arith, h, c .before .before .before .before .before .pre .0 .bounded)
+mul-end c =
+    let start = c .before .before .before .before .before in
+    let h = row-at (start .pre .0) (start .pre .1) in omega (arith, h, start .pre .0 .bounded)
 
 shared-slice-read-end : tie.Need-shared-slice-read-end Inv-loop μ-loop
-shared-slice-read-end c = let h = row-at (c .before .before .before .before .before .before .pre .0) (c .before .before .before .before .before .before .pre .1) in omega (arith, h, c .before .before .before .before .before .before .pre .0 .starts)
+shared-slice-read-end c =
+    let start = c .before .before .before .before .before .before in
+    let h = row-at (start .pre .0) (start .pre .1) in omega (arith, h, start .pre .0 .starts)
 
 mul-i : tie.Need-mul-i Inv-loop μ-loop
-mul-i c = let h = row-at (c .before .before .before .before .before .before .pre .0) (c .before .before .before .before .before .before .pre .1) in omega (arith, h, c .before .before .before .before .before .before .pre .0 .bounded)
+mul-i c =
+    let start = c .before .before .before .before .before .before in
+    let h = row-at (start .pre .0) (start .pre .1) in omega (arith, h, start .pre .0 .bounded)
 
 shared-slice-read-i : tie.Need-shared-slice-read-i Inv-loop μ-loop
-shared-slice-read-i c = let h = row-at (c .before .before .before .before .before .before .before .pre .0) (c .before .before .before .before .before .before .before .pre .1) in omega (arith, h, c .before .before .before .before .before .before .before .pre .0 .starts)
+shared-slice-read-i c =
+    let start = c .before .before .before .before .before .before .before in
+    let h = row-at (start .pre .0) (start .pre .1) in omega (arith, h, start .pre .0 .starts)
 
 loop-holds : tie.Need-loop-holds Inv-loop μ-loop
 loop-holds c = record { state = c .before .before .before .before .before .before .before .pre .1; rest = kept-refl _ _ _ }
 
 mul-v : tie.Need-mul-v Inv-loop μ-loop
-mul-v c = let h = row-at (c .before .before .before .before .before .before .before .before .before .pre .0) (c .before .before .before .before .before .before .before .before .before .pre .1) in omega (arith, c .before .before .before .before .before .before .before .before .before .pre .0 .heads (c .before .before .before .before .before .before .before .before .before .args .u) h, c .loop-test .taken)
+mul-v c =
+    let start = c .before .before .before .before .before .before .before .before .before in
+    let h = row-at (start .pre .0) (start .pre .1) in omega (arith, start .pre .0 .heads (start .args .u) h, c .loop-test .taken)
 
 shared-slice-read-v : tie.Need-shared-slice-read-v Inv-loop μ-loop
-shared-slice-read-v c = let h = row-at (c .before .before .before .before .before .before .before .before .before .before .pre .0) (c .before .before .before .before .before .before .before .before .before .before .pre .1) in omega (arith, c .before .before .before .before .before .before .before .before .before .before .pre .0 .heads (c .before .before .before .before .before .before .before .before .before .before .args .u) h, c .before .loop-test .taken)
+shared-slice-read-v c =
+    let start = c .before .before .before .before .before .before .before .before .before .before in
+    let h = row-at (start .pre .0) (start .pre .1) in omega (arith, start .pre .0 .heads (start .args .u) h, c .before .loop-test .taken)
 
 cast-v : tie.Need-cast-v Inv-loop μ-loop
 cast-v c = omega (arith, c .shared-slice-known5 .given (c .before .before .loop .i))

@@ -68,7 +68,10 @@ returns : tie.Need-returns Inv-loop μ-loop
 returns c =
     let l = c .before .loop in
     let s = c .before .before .before .before .before .before .before .before in
-    subst (λ (k : ℕ). Filled (s .args .m) (s .args .p) k (RowLeads (s .args .m) (s .args .offsets .now) (s .args .heads .now)) (s .args .nodes .now) (s .args .labels .now) (s .args .queue .now) (s .args .matrix .now) (l .labels) (l .queue) (l .matrix)) (omega (arith, l .inv .0, c .loop-test .left)) (l .inv .1)
+    subst (λ (k : ℕ).
+    Filled (s .args .m) (s .args .p) k (RowLeads (s .args .m) (s .args .offsets .now) (s .args .heads .now)) (s .args .nodes .now) (s .args .labels .now) (s .args .queue .now) (s .args .matrix .now)
+    (l .labels) (l .queue) (l .matrix))
+    (omega (arith, l .inv .0, c .loop-test .left)) (l .inv .1)
 
 pub fill-spec : {M : Type 1} → statement M
 fill-spec =

@@ -53,7 +53,11 @@ same-length-12 : tie.Need-same-length-12
 same-length-12 c = search needs
 
 returns-2 : tie.Need-returns-2
-returns-2 c = promised-ints _ _ _ _ _ _ _ _ (sym (c .before .before .before .before .before .before .before .before .before .before .before .before .before .before .before .before .before .before .before .before .refusal .ensures) ∙ c .before .before .before .before .before .before .before .before .before .before .before .before .before .before .before .before .before .before .before .if1 .left) (c .before .before .before .before .before .before .before .before .before .before .before .before .answer .ensures)
+returns-2 c =
+    let at-answer = c .before .before .before .before .before .before .before .before .before .before .before .before in
+    let at-if1 = at-answer .before .before .before .before .before .before .before in
+    let at-refusal = at-if1 .before in
+    promised-ints _ _ _ _ _ _ _ _ (sym (at-refusal .refusal .ensures) ∙ at-if1 .if1 .left) (at-answer .answer .ensures)
 
 pub hops-spec : {M : Type 1} → statement M
 hops-spec =

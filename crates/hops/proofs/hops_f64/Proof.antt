@@ -32,7 +32,10 @@ returns : tie.Need-returns
 returns c = refused _ _ _ (c .before .refusal-f64 .ensures) (c .if1 .taken)
 
 answer-requires : tie.Need-answer-requires
-answer-requires c κs = ripe-floats _ _ _ _ _ _ _ _ _ (sym (c .before .before .before .before .before .before .before .refusal-f64 .ensures) ∙ c .before .before .before .before .before .before .if1 .left)
+answer-requires c κs =
+    let at-if1 = c .before .before .before .before .before .before in
+    let at-refusal-f64 = at-if1 .before in
+    ripe-floats _ _ _ _ _ _ _ _ _ (sym (at-refusal-f64 .refusal-f64 .ensures) ∙ at-if1 .if1 .left)
 
 same-length-7 : tie.Need-same-length-7
 same-length-7 c = search needs
@@ -53,7 +56,11 @@ same-length-12 : tie.Need-same-length-12
 same-length-12 c = search needs
 
 returns-2 : tie.Need-returns-2
-returns-2 c = promised-floats _ _ _ _ _ _ _ _ _ (sym (c .before .before .before .before .before .before .before .before .before .before .before .before .before .before .before .before .before .before .before .before .refusal-f64 .ensures) ∙ c .before .before .before .before .before .before .before .before .before .before .before .before .before .before .before .before .before .before .before .if1 .left) (c .before .before .before .before .before .before .before .before .before .before .before .before .answer .ensures)
+returns-2 c =
+    let at-answer = c .before .before .before .before .before .before .before .before .before .before .before .before in
+    let at-if1 = at-answer .before .before .before .before .before .before .before in
+    let at-refusal-f64 = at-if1 .before in
+    promised-floats _ _ _ _ _ _ _ _ _ (sym (at-refusal-f64 .refusal-f64 .ensures) ∙ at-if1 .if1 .left) (at-answer .answer .ensures)
 
 pub hops-f64-spec : {M : Type 1} → statement M
 hops-f64-spec =

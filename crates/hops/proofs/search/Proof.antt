@@ -19,10 +19,15 @@ meet-requires : tie.Need-meet-requires Inv-loop μ-loop
 meet-requires c κs = let f = c .before .before .before .before .before .before .pre .1 in (omega (arith, f .source, f .roomL), omega arith, omega (arith, f .roomQ))
 
 loop-holds : tie.Need-loop-holds Inv-loop μ-loop
-loop-holds c = record { turning = turn-first (c .before .before .before .before .before .before .before .before .before .before .before .pre .1) (c .before .before .before .before .meet .ensures); rest = kept-refl _ _ _ }
+loop-holds c =
+    let at-meet = c .before .before .before .before in
+    let start = at-meet .before .before .before .before .before .before .before in
+    record { turning = turn-first (start .pre .1) (at-meet .meet .ensures); rest = kept-refl _ _ _ }
 
 mul-u : tie.Need-mul-u Inv-loop μ-loop
-mul-u c = omega (arith, c .before .loop-test .taken, few-queued (c .before .before .loop .inv .turning .good), c .before .before .before .before .before .before .before .before .before .before .before .before .before .before .pre .0 .bounded)
+mul-u c =
+    let start = c .before .before .before .before .before .before .before .before .before .before .before .before .before .before in
+    omega (arith, c .before .loop-test .taken, few-queued (c .before .before .loop .inv .turning .good), start .pre .0 .bounded)
 
 slice-read-u : tie.Need-slice-read-u Inv-loop μ-loop
 slice-read-u c = omega (arith, c .before .before .loop-test .taken, few-queued (c .before .before .before .loop .inv .turning .good), c .before .before .before .loop .inv .turning .good .roomQ)

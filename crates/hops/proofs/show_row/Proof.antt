@@ -52,15 +52,20 @@ loop-less : tie.Need-loop-less Inv-loop μ-loop
 loop-less c = search needs
 
 loop-again : tie.Need-loop-again Inv-loop μ-loop
-loop-again c = (omega arith, shown-next (c .before .before .before .before .loop .inv .1) (omega (arith, c .before .before .before .before .before .before .before .before .pre .room)) (c .shown .ensures))
+loop-again c =
+    let at-loop = c .before .before .before .before in
+    let start = at-loop .before .before .before .before in
+    (omega arith, shown-next (at-loop .loop .inv .1) (omega (arith, start .pre .room)) (c .shown .ensures))
 
 same-length : tie.Need-same-length Inv-loop μ-loop
 same-length c = c .before .loop .inv .1 .long
 
 returns : tie.Need-returns Inv-loop μ-loop
 returns c =
+    let start = c .before .before .before .before .before in
     let l = c .before .loop in
-    subst (λ (k : ℕ). RowShown k (c .before .before .before .before .before .args .at) (c .before .before .before .before .before .args .nodes .now) (c .before .before .before .before .before .args .labels .now) (c .before .before .before .before .before .args .matrix .now) (l .matrix)) (omega (arith, l .inv .0, c .loop-test .left)) (l .inv .1)
+    subst (λ (k : ℕ). RowShown k (start .args .at) (start .args .nodes .now) (start .args .labels .now) (start .args .matrix .now) (l .matrix)) (omega (arith, l .inv .0, c .loop-test .left))
+    (l .inv .1)
 
 pub show-row-spec : {M : Type 1} → statement M
 show-row-spec =

@@ -3,34 +3,51 @@
 use Rattle.johnson.proofs.fill.Statement.{statement}
 use Rattle.johnson.proofs.fill.Tie as tie
 use borrow.Author.Needs.{needs}
-use mathlib.Core.Path.{sym, _∙_}
 use Prim.Native.Nat.{_-_}
 use native.Mathlib.Omega.{arith}
 use Rattle.rows.specs.Rows.{listsOf}
 use Rattle.turns.specs.Memory.{memoryOf}
-use Rattle.turns.proofs.Firsts.{memory-more, memory-roomy}
+use Rattle.turns.proofs.Firsts.{memory-more, memory-enough}
 use Rattle.johnson.proofs.Shows.{Filling, fill-first, can-next, fill-last}
 
 abbrev Inv-loop : tie.InvT-loop
-Inv-loop m p marks offsets heads weights heights matrix₀ dist₀ preds₀ heap₀ places₀ keys₀ i₀ u₀ matrix dist preds heap places keys i u = Filling m p marks (listsOf offsets heads weights) heights matrix₀ matrix (memoryOf dist₀ preds₀ heap₀ places₀ keys₀) (memoryOf dist preds heap places keys) i u
+Inv-loop m p marks offsets heads weights heights matrix₀ dist₀ preds₀ peaks₀ words₀ keys₀ i₀ u₀ matrix dist preds peaks words keys i u =
+    Filling m p marks (listsOf offsets heads weights) heights matrix₀ matrix (memoryOf dist₀ preds₀ peaks₀ words₀ keys₀) (memoryOf dist preds peaks words keys) i u
 
 abbrev μ-loop : tie.MeasureT-loop
-μ-loop m p marks offsets heads weights heights matrix₀ dist₀ preds₀ heap₀ places₀ keys₀ i₀ u₀ matrix dist preds heap places keys i u = m - u
+μ-loop m p marks offsets heads weights heights matrix₀ dist₀ preds₀ peaks₀ words₀ keys₀ i₀ u₀ matrix dist preds peaks words keys i u = m - u
 
 loop-holds : tie.Need-loop-holds Inv-loop μ-loop
 loop-holds c = fill-first (c .before .before .before .before .before .before .pre .0)
 
 make-row-requires : tie.Need-make-row-requires Inv-loop μ-loop
-make-row-requires c κs = let l = c .before .before .before .before .before .before .before .loop .inv in (c .before .before .before .before .before .before .loop-test .taken, l .count, can-next (c .before .before .before .before .before .before .before .before .before .before .before .before .before .before .pre .0) (l .filled .long), memory-roomy (c .before .before .before .before .before .before .before .before .before .before .before .before .before .before .pre .1) (l .kept))
+make-row-requires c κs =
+    let at-loop-test = c .before .before .before .before .before .before in
+    let at-loop = at-loop-test .before in
+    let start = at-loop .before .before .before .before .before .before .before in
+    let l = at-loop .loop .inv in (at-loop-test .loop-test .taken, l .count, can-next (start .pre .0) (l .filled .long), memory-enough (start .pre .1) (l .kept))
 
 add-u : tie.Need-add-u Inv-loop μ-loop
-add-u c = omega (arith, c .before .before .before .before .before .before .before .before .before .before .before .before .before .before .before .before .loop-test .taken, c .before .before .before .before .before .before .before .before .before .before .before .before .before .before .before .before .before .before .before .before .before .before .before .before .pre .0 .even .rows .bounded)
+add-u c =
+    let at-loop-test = c .before .before .before .before .before .before .before .before .before .before .before .before .before .before .before .before in
+    let start = at-loop-test .before .before .before .before .before .before .before .before in
+    omega (arith, at-loop-test .loop-test .taken, start .pre .0 .even .rows .bounded)
 
 loop-less : tie.Need-loop-less Inv-loop μ-loop
 loop-less c = search needs
 
 loop-again : tie.Need-loop-again Inv-loop μ-loop
-loop-again c = let l = c .before .before .before .before .before .before .before .before .before .before .before .before .before .before .before .before .before .loop .inv in record { within = omega (arith, c .before .before .before .before .before .before .before .before .before .before .before .before .before .before .before .before .loop-test .taken); count = c .before .before .before .before .before .before .before .before .before .make-row .ensures .0; filled = c .before .before .before .before .before .before .before .before .before .make-row .ensures .1 _ (l .filled); kept = memory-more (l .kept) (c .before .before .before .before .before .before .before .before .before .make-row .ensures .2) }
+loop-again c =
+    let at-make-row = c .before .before .before .before .before .before .before .before .before in
+    let at-loop-test = at-make-row .before .before .before .before .before .before .before in
+    let at-loop = at-loop-test .before in
+    let l = at-loop .loop .inv in
+    record {
+      within = omega (arith, at-loop-test .loop-test .taken);
+      count = at-make-row .make-row .ensures .0;
+      filled = at-make-row .make-row .ensures .1 _ (l .filled);
+      kept = memory-more (l .kept) (at-make-row .make-row .ensures .2);
+    }
 
 same-length : tie.Need-same-length Inv-loop μ-loop
 same-length c = c .before .loop .inv .filled .long
@@ -42,10 +59,10 @@ same-length-3 : tie.Need-same-length-3 Inv-loop μ-loop
 same-length-3 c = c .before .loop .inv .kept .preds .long
 
 same-length-4 : tie.Need-same-length-4 Inv-loop μ-loop
-same-length-4 c = c .before .loop .inv .kept .heap .long
+same-length-4 c = c .before .loop .inv .kept .peaks .long
 
 same-length-5 : tie.Need-same-length-5 Inv-loop μ-loop
-same-length-5 c = c .before .loop .inv .kept .places .long
+same-length-5 c = c .before .loop .inv .kept .words .long
 
 same-length-6 : tie.Need-same-length-6 Inv-loop μ-loop
 same-length-6 c = c .before .loop .inv .kept .keys .long

@@ -15,7 +15,6 @@ use mir.Syntax.{w64}
 use mir.Val.{toZ, ofZ}
 use mir.ValLaws.{toZ-ofZ}
 use borrow.Author.Needs.{sfits-of}
-use Prim.Native.Nat.{_-_}
 use Rattle.whole.specs.Zed.{_⊕_}
 use Rattle.johnson.specs.Rounds.{lowers, label}
 
@@ -27,7 +26,8 @@ module _ (c : lts.After-lower (sum-at-reads.Asked, sum-at-reads.Learnt, lower-re
   n-is : toZ w64 (ofZ w64 (c .before .before .sum-at .result)) ≡ s
   n-is = toZ-ofZ w64 _ (sfits-of (c .before .before .sum-at .ok)) ∙ c .before .before .sum-at .ensures .0
 
-  gave : c .lower .result ≡ lowers (c .before .before .before .args .u) (c .before .before .before .args .v) (getD (c .before .before .before .args .costs .now) (c .before .before .before .args .k) (pos 0)) (c .before .before .before .args .heights .now)
+  gave : c .lower .result ≡ lowers (c .before .before .before .args .u) (c .before .before .before .args .v)
+      (getD (c .before .before .before .args .costs .now) (c .before .before .before .args .k) (pos 0)) (c .before .before .before .args .heights .now)
   unfolding lowers
   gave = c .lower .ensures ∙ (λ i. ltZ (n-is i) (toZ-ofZ w64 (label (c .before .before .before .args .heights .now) (c .before .before .before .args .v)) (sfits-of (c .before .lower-arg .given)) i))
 

@@ -27,7 +27,7 @@ module _ (e : tie.Else1) where
   abbrev scratch : Scratch
   scratch =
       scratchOf (start .args .offsets .now) (start .args .heads .now) (start .args .weights .now) (start .args .heights .now) (start .args .dist .now) (start .args .preds .now)
-      (start .args .heap .now) (start .args .places .now) (start .args .keys .now)
+      (start .args .peaks .now) (start .args .words .now) (start .args .keys .now)
 
   no-refusal : refusalNo lent (start .args .matrix .now) scratch ≡ 0
   no-refusal = sym (e .before .refusal .ensures) ∙ e .if1 .left
@@ -42,7 +42,7 @@ module _ (a : tie.After-solve) where
   abbrev counted : tie.After-count-present
   counted = a .before .before .before .before .before .before .before .before .before .before .before
 
-  abbrev roomed : tie.After-arc-room
+  abbrev roomed : tie.After-most-arcs
   roomed = counted .before
 
   abbrev past : tie.Else1
@@ -104,8 +104,8 @@ same-length-10 c = search needs
 returns : tie.Need-returns
 returns c = refused _ _ _ _ (c .before .refusal .ensures) (c .if1 .taken)
 
-arc-room-requires : tie.Need-arc-room-requires
-arc-room-requires c κs = map-whole c .links
+most-arcs-requires : tie.Need-most-arcs-requires
+most-arcs-requires c κs = map-whole c .links
 
 count-present-requires : tie.Need-count-present-requires
 count-present-requires c κs = map-whole (c .before) .marked
@@ -116,7 +116,7 @@ solve-requires c κs = passed _ _ _ (no-refusal (c .before .before .before .befo
 wipe-requires : tie.Need-wipe-requires
 wipe-requires c κs =
     let a = solved-by (c .before .before .before .before .before .before .before .before .before) in
-    room-after _ _ _ (no-refusal (past a)) (roomed a .arc-room .ensures) (a .solve .ensures)
+    room-after _ _ _ (no-refusal (past a)) (roomed a .most-arcs .ensures) (a .solve .ensures)
 
 mul-blank-i64 : tie.Need-mul-blank-i64
 mul-blank-i64 c =
@@ -128,7 +128,7 @@ blank-i64-requires : tie.Need-blank-i64-requires
 blank-i64-requires c κs =
     let w = c .before .before .before .before .before .before .before .before .before .before .before .before .before .before .before .before in
     let a = solved w in
-    blank-room _ _ _ (no-refusal (past a)) (roomed a .arc-room .ensures) (a .solve .ensures) (w .wipe .ensures) (counted a .count-present .ensures)
+    blank-room _ _ _ (no-refusal (past a)) (roomed a .most-arcs .ensures) (a .solve .ensures) (w .wipe .ensures) (counted a .count-present .ensures)
 
 same-length-11 : tie.Need-same-length-11
 same-length-11 c = c .before .blank-i64 .kept .0 ∙ solved (wiped (c .before)) .solve .kept .1 .1 .1 .1 .1 .0
@@ -164,7 +164,7 @@ returns-2 : tie.Need-returns-2
 returns-2 c =
     let w = wiped (c .before) in
     let a = solved w in
-    answer-yes _ _ _ (no-refusal (past a)) (roomed a .arc-room .ensures) (a .solve .ensures) (w .wipe .ensures)
+    answer-yes _ _ _ (no-refusal (past a)) (roomed a .most-arcs .ensures) (a .solve .ensures) (w .wipe .ensures)
     (counted a .count-present .ensures) (c .before .blank-i64 .ensures) (c .before .before .before .if2 .taken)
 
 same-length-21 : tie.Need-same-length-21
@@ -201,7 +201,7 @@ returns-3 : tie.Need-returns-3
 returns-3 c =
     let w = wiped-last c in
     let a = solved w in
-    answer-no _ _ _ (no-refusal (past a)) (roomed a .arc-room .ensures) (a .solve .ensures) (w .wipe .ensures) (c .if2 .left)
+    answer-no _ _ _ (no-refusal (past a)) (roomed a .most-arcs .ensures) (a .solve .ensures) (w .wipe .ensures) (c .if2 .left)
 
 pub johnson-spec : {M : Type 1} → statement M
 johnson-spec =
@@ -219,7 +219,7 @@ johnson-spec =
     same-length-9
     same-length-10
     returns
-    arc-room-requires
+    most-arcs-requires
     count-present-requires
     solve-requires
     wipe-requires

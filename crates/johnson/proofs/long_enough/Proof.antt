@@ -16,23 +16,26 @@ returns : tie.Need-returns
 unfolding longEnough
 returns c = simp (lt-leb _ _ (c .if1 .taken))
 
-has-room-requires : tie.Need-has-room-requires
-has-room-requires c κs = search needs
+has-lists-requires : tie.Need-has-lists-requires
+has-lists-requires c κs = search needs
 
 returns-2 : tie.Need-returns-2
 unfolding longEnough
-returns-2 c = simp (le-leb _ _ (c .before .before .if1 .left), sym (c .before .has-room .ensures) ∙ not-true _ (c .if2 .taken))
+returns-2 c = simp (le-leb _ _ (c .before .before .if1 .left), sym (c .before .has-lists .ensures) ∙ not-true _ (c .if2 .taken))
 
 returns-3 : tie.Need-returns-3
 unfolding longEnough
-returns-3 c = simp (le-leb _ _ (c .before .before .before .if1 .left), sym (c .before .before .has-room .ensures) ∙ not-false _ (c .before .if2 .left), lt-leb _ _ (c .if3 .taken))
+returns-3 c = simp (le-leb _ _ (c .before .before .before .if1 .left), sym (c .before .before .has-lists .ensures) ∙ not-false _ (c .before .if2 .left), lt-leb _ _ (c .if3 .taken))
 
 has-memory-requires : tie.Need-has-memory-requires
 has-memory-requires c κs = search needs
 
 returns-4 : tie.Need-returns-4
 unfolding longEnough
-returns-4 c = c .has-memory .ensures ∙ simp (le-leb _ _ (c .before .before .before .before .if1 .left), sym (c .before .before .before .has-room .ensures) ∙ not-false _ (c .before .before .if2 .left), le-leb _ _ (c .before .if3 .left))
+returns-4 c =
+    let at-has-lists = c .before .before .before in
+    let at-if1 = at-has-lists .before in
+    c .has-memory .ensures ∙ simp (le-leb _ _ (at-if1 .if1 .left), sym (at-has-lists .has-lists .ensures) ∙ not-false _ (c .before .before .if2 .left), le-leb _ _ (c .before .if3 .left))
 
 pub long-enough-spec : {M : Type 1} → statement M
-long-enough-spec = tie.close (tie.spec mul-if1 returns has-room-requires returns-2 returns-3 has-memory-requires returns-4)
+long-enough-spec = tie.close (tie.spec mul-if1 returns has-lists-requires returns-2 returns-3 has-memory-requires returns-4)

@@ -4,26 +4,39 @@ use borrow.Author.Needs.{needs}
 use Rattle.johnson.proofs.make_row.Statement.{statement}
 use Rattle.johnson.proofs.make_row.Tie as tie
 use native.Mathlib.Omega.{arith}
-use Rattle.turns.proofs.Firsts.{memory-none, memory-roomy}
+use Rattle.turns.proofs.Firsts.{memory-none, memory-enough}
 use Rattle.johnson.proofs.Shows.{cheap, found, row-small, place-small, can-show, row-made, row-counted, row-skipped, row-not-counted}
 
 shared-slice-read-if1 : tie.Need-shared-slice-read-if1
 shared-slice-read-if1 c = search needs
 
 returns : tie.Need-returns
-returns c = let s = c .before .before .before .before .before .before .before .before in (row-not-counted (s .pre .2) (s .pre .0) (s .pre .1) (c .if1 .taken), row-skipped (s .pre .2) (s .pre .0) (s .pre .1) (c .if1 .taken), memory-none)
+returns c =
+    let s = c .before .before .before .before .before .before .before .before in
+    (row-not-counted (s .pre .2) (s .pre .0) (s .pre .1) (c .if1 .taken), row-skipped (s .pre .2) (s .pre .0) (s .pre .1) (c .if1 .taken), memory-none)
 
 to-all-requires : tie.Need-to-all-requires
 to-all-requires c κs = let s = c .before .before .before .before .before .before .before .before .before .before .before .before .before in (cheap (s .pre .2 .even), (s .pre .0, s .pre .3))
 
 mul-show-row : tie.Need-mul-show-row
-mul-show-row c = let s = c .before .before .before .before .before .before .before .before .before .before .before .before .before .before .before .before .before .before .before .before .before .before in omega (arith, place-small (s .pre .2) (s .pre .0) (s .pre .1) (c .before .before .before .before .before .before .before .before .before .before .before .before .before .before .if1 .left))
+mul-show-row c =
+    let at-if1 = c .before .before .before .before .before .before .before .before .before .before .before .before .before .before in
+    let s = c .before .before .before .before .before .before .before .before .before .before .before .before .before .before .before .before .before .before .before .before .before .before in
+    omega (arith, place-small (s .pre .2) (s .pre .0) (s .pre .1) (at-if1 .if1 .left))
 
 show-row-requires : tie.Need-show-row-requires
-show-row-requires c κs = let s = c .before .before .before .before .before .before .before .before .before .before .before .before .before .before .before .before .before .before .before .before .before .before .before .before in can-show (s .pre .2) (s .pre .0) (s .pre .1) (c .before .before .before .before .before .before .before .before .before .before .before .before .before .before .before .before .if1 .left) (found (s .pre .2 .even) (c .before .before .before .before .before .before .before .before .before .before .to-all .ensures .0)) (memory-roomy (s .pre .3) (c .before .before .before .before .before .before .before .before .before .before .to-all .ensures .1) .dist)
+show-row-requires c κs =
+    let at-to-all = c .before .before .before .before .before .before .before .before .before .before in
+    let at-if1 = at-to-all .before .before .before .before .before .before in
+    let s =
+    c .before .before .before .before .before .before .before .before .before .before .before .before .before .before .before .before .before .before .before .before .before .before .before .before in
+    can-show (s .pre .2) (s .pre .0) (s .pre .1) (at-if1 .if1 .left) (found (s .pre .2 .even) (at-to-all .to-all .ensures .0)) (memory-enough (s .pre .3) (at-to-all .to-all .ensures .1) .dist)
 
 add-result : tie.Need-add-result
-add-result c = let s = c .before .before .before .before .before .before .before .before .before .before .before .before .before .before .before .before .before .before .before .before .before .before .before .before .before .before in omega (arith, row-small (s .pre .2) (s .pre .0) (s .pre .1))
+add-result c =
+    let s = c .before .before .before .before .before .before .before .before .before .before .before .before .before .before .before .before .before .before .before .before .before .before .before
+    .before .before .before in
+    omega (arith, row-small (s .pre .2) (s .pre .0) (s .pre .1))
 
 same-length : tie.Need-same-length
 same-length c = search needs
@@ -44,7 +57,15 @@ same-length-6 : tie.Need-same-length-6
 same-length-6 c = search needs
 
 returns-2 : tie.Need-returns-2
-returns-2 c = let s = c .before .before .before .before .before .before .before .before .before .before .before .before .before .before .before .before .before .before .before .before .before .before .before .before .before .before in (row-counted (s .pre .2) (s .pre .0) (s .pre .1) (c .before .before .before .before .before .before .before .before .before .before .before .before .before .before .before .before .before .before .if1 .left), row-made (s .pre .2) (s .pre .0) (s .pre .1) (c .before .before .before .before .before .before .before .before .before .before .before .before .before .before .before .before .before .before .if1 .left) (found (s .pre .2 .even) (c .before .before .before .before .before .before .before .before .before .before .before .before .to-all .ensures .0)) (c .before .show-row .ensures), c .before .before .before .before .before .before .before .before .before .before .before .before .to-all .ensures .1)
+returns-2 c =
+    let at-to-all = c .before .before .before .before .before .before .before .before .before .before .before .before in
+    let at-if1 = at-to-all .before .before .before .before .before .before in
+    let s = c .before .before .before .before .before .before .before .before .before .before .before .before .before .before .before .before .before .before .before .before .before .before .before
+    .before .before .before in (
+      row-counted (s .pre .2) (s .pre .0) (s .pre .1) (at-if1 .if1 .left),
+      row-made (s .pre .2) (s .pre .0) (s .pre .1) (at-if1 .if1 .left) (found (s .pre .2 .even) (at-to-all .to-all .ensures .0)) (c .before .show-row .ensures),
+      at-to-all .to-all .ensures .1,
+    )
 
 pub make-row-spec : {M : Type 1} → statement M
 make-row-spec =

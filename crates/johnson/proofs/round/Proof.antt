@@ -21,7 +21,10 @@ loop-holds : tie.Need-loop-holds Inv-loop μ-loop
 loop-holds c = sweep-starts _ _ _
 
 relax-link-requires : tie.Need-relax-link-requires Inv-loop μ-loop
-relax-link-requires c κs = let s = c .before .before .before .before .before in let w = sweep-asks (s .pre .0) (s .pre .1) (c .before .before .loop .inv) (c .before .loop-test .taken) in (omega (arith, s .pre .0 .roomA), omega (arith, s .pre .0 .roomB), omega (arith, s .pre .0 .roomC), w .0 .0, w .0 .1, w .1)
+relax-link-requires c κs =
+    let s = c .before .before .before .before .before in
+    let w = sweep-asks (s .pre .0) (s .pre .1) (c .before .before .loop .inv) (c .before .loop-test .taken) in
+    (omega (arith, s .pre .0 .roomA), omega (arith, s .pre .0 .roomB), omega (arith, s .pre .0 .roomC), w .0 .0, w .0 .1, w .1)
 
 add-k : tie.Need-add-k Inv-loop μ-loop
 add-k c = search needs
@@ -30,7 +33,12 @@ loop-less : tie.Need-loop-less Inv-loop μ-loop
 loop-less c = search needs
 
 loop-again : tie.Need-loop-again Inv-loop μ-loop
-loop-again c = sweep-next (c .before .before .before .before .before .before .before .before .pre .0) (c .before .before .before .before .before .loop .inv) (c .before .before .before .before .loop-test .taken) (c .before .before .relax-link .ensures) (⊎-elim (λ w q. absurd (clash (w .1) q)) (λ w q. (sym (w .1) ∙ q, w .0 .left)) (c .if1 .came))
+loop-again c =
+    let at-loop-test = c .before .before .before .before in
+    let at-loop = at-loop-test .before in
+    let start = at-loop .before .before .before in
+    sweep-next (start .pre .0) (at-loop .loop .inv) (at-loop-test .loop-test .taken) (c .before .before .relax-link .ensures)
+    (⊎-elim (λ w q. absurd (clash (w .1) q)) (λ w q. (sym (w .1) ∙ q, w .0 .left)) (c .if1 .came))
 
 same-length : tie.Need-same-length Inv-loop μ-loop
 same-length c = search needs

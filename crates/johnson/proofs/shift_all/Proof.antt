@@ -21,7 +21,9 @@ loop-holds : tie.Need-loop-holds Inv-loop μ-loop
 loop-holds c = (omega arith, shift-starts _ _ _ (c .before .before .pre .rising))
 
 shift-row-requires : tie.Need-shift-row-requires Inv-loop μ-loop
-shift-row-requires c κs = let l : c .before .before .loop .u < c .before .before .before .before .before .args .m = c .before .loop-test .taken in (l, listed-on (c .before .before .before .before .before .pre) l (c .before .before .loop .inv .1))
+shift-row-requires c κs =
+    let l : c .before .before .loop .u < c .before .before .before .before .before .args .m = c .before .loop-test .taken in
+    (l, listed-on (c .before .before .before .before .before .pre) l (c .before .before .loop .inv .1))
 
 add-u : tie.Need-add-u Inv-loop μ-loop
 add-u c = omega (arith, c .before .before .before .loop-test .taken, c .before .before .before .before .before .before .before .pre .starts)
@@ -36,7 +38,12 @@ same-length : tie.Need-same-length Inv-loop μ-loop
 same-length c = c .before .loop .inv .1 .long
 
 returns : tie.Need-returns Inv-loop μ-loop
-returns c = let s = c .before .before .before .before in let l = c .before .loop in let e : l .u ≡ s .args .m = omega (arith, l .inv .0, c .loop-test .left) in subst (λ (k : ℕ). ShiftedTo (s .args .m) (listsOf (s .args .offsets .now) (s .args .heads .now) (s .args .weights .now)) (s .args .heights .now) (l .weights) (getD (s .args .offsets .now) k 0)) e (l .inv .1)
+returns c =
+    let s = c .before .before .before .before in
+    let l = c .before .loop in
+    let e : l .u ≡ s .args .m = omega (arith, l .inv .0, c .loop-test .left) in
+    subst (λ (k : ℕ). ShiftedTo (s .args .m) (listsOf (s .args .offsets .now) (s .args .heads .now) (s .args .weights .now)) (s .args .heights .now) (l .weights) (getD (s .args .offsets .now) k 0)) e
+    (l .inv .1)
 
 pub shift-all-spec : {M : Type 1} → statement M
 shift-all-spec =

@@ -21,7 +21,10 @@ shared-slice-copy-out-n : tie.Need-shared-slice-copy-out-n
 shared-slice-copy-out-n c = search needs
 
 add-n : tie.Need-add-n
-add-n c = let s = c .before .before in sum-fits (getD (s .args .weights .now) (s .args .i) (pos 0)) (sfits-of (c .before .n .given)) (sfits-of (c .n2 .given)) (sfits-of (c .n2 .given)) (small-near (getD (s .args .weights .now) (s .args .i) (pos 0)) (s .pre .3)) (s .pre .4) (s .pre .4)
+add-n c =
+    let s = c .before .before in
+    sum-fits (getD (s .args .weights .now) (s .args .i) (pos 0)) (sfits-of (c .before .n .given)) (sfits-of (c .n2 .given)) (sfits-of (c .n2 .given))
+    (small-near (getD (s .args .weights .now) (s .args .i) (pos 0)) (s .pre .3)) (s .pre .4) (s .pre .4)
 
 mul-weights : tie.Need-mul-weights
 mul-weights c = search needs
@@ -30,7 +33,10 @@ shared-slice-copy-out-weights : tie.Need-shared-slice-copy-out-weights
 shared-slice-copy-out-weights c = search needs
 
 sub-weights : tie.Need-sub-weights
-sub-weights c = let s = c .before .before .before in diff-fits (getD (s .args .weights .now) (s .args .i) (pos 0)) (sfits-of (c .before .before .n .given)) (sfits-of (c .before .n2 .given)) (sfits-of (c .weights .given)) (small-near (getD (s .args .weights .now) (s .args .i) (pos 0)) (s .pre .3)) (s .pre .4) (s .pre .5)
+sub-weights c =
+    let s = c .before .before .before in
+    diff-fits (getD (s .args .weights .now) (s .args .i) (pos 0)) (sfits-of (c .before .before .n .given)) (sfits-of (c .before .n2 .given)) (sfits-of (c .weights .given))
+    (small-near (getD (s .args .weights .now) (s .args .i) (pos 0)) (s .pre .3)) (s .pre .4) (s .pre .5)
 
 mul-t10 : tie.Need-mul-t10
 mul-t10 c = search needs
@@ -42,7 +48,11 @@ same-length : tie.Need-same-length
 same-length c = search needs
 
 returns : tie.Need-returns
-returns c = let s = c .before .before .before in ap (set (s .args .weights .now) (s .args .i)) (diff-back (getD (s .args .weights .now) (s .args .i) (pos 0)) (sfits-of (c .before .before .n .given)) (sfits-of (c .before .n2 .given)) (sfits-of (c .weights .given)) (small-near (getD (s .args .weights .now) (s .args .i) (pos 0)) (s .pre .3)) (s .pre .4) (s .pre .5))
+returns c =
+    let s = c .before .before .before in
+    ap (set (s .args .weights .now) (s .args .i))
+    (diff-back (getD (s .args .weights .now) (s .args .i) (pos 0)) (sfits-of (c .before .before .n .given)) (sfits-of (c .before .n2 .given)) (sfits-of (c .weights .given))
+    (small-near (getD (s .args .weights .now) (s .args .i) (pos 0)) (s .pre .3)) (s .pre .4) (s .pre .5))
 
 pub shift-at-spec : {M : Type 1} → statement M
 shift-at-spec =

@@ -48,7 +48,11 @@ shared-slice-copy-out-n : tie.Need-shared-slice-copy-out-n
 shared-slice-copy-out-n c = search needs
 
 add-n : tie.Need-add-n
-add-n c = let s = c .before .before .before .before in sum-fits (found (c .before .before)) (sfits-of (c .before .before .before .d .given)) (sfits-of (c .n .given)) (sfits-of (c .n .given)) (s .pre .3 (far (c .before .before) (c .before .if1 .left))) (s .pre .5) (s .pre .5)
+add-n c =
+    let at-d = c .before .before .before in
+    let s = c .before .before .before .before in
+    sum-fits (found (c .before .before)) (sfits-of (at-d .d .given)) (sfits-of (c .n .given)) (sfits-of (c .n .given)) (s .pre .3 (far (c .before .before) (c .before .if1 .left))) (s .pre .5)
+    (s .pre .5)
 
 mul-result : tie.Need-mul-result
 mul-result c = search needs
@@ -57,10 +61,21 @@ shared-slice-copy-out-result : tie.Need-shared-slice-copy-out-result
 shared-slice-copy-out-result c = search needs
 
 sub-result : tie.Need-sub-result
-sub-result c = let s = c .before .before .before .before .before in diff-fits (found (c .before .before .before)) (sfits-of (c .before .before .before .before .d .given)) (sfits-of (c .before .n .given)) (sfits-of (c .result .given)) (s .pre .3 (far (c .before .before .before) (c .before .before .if1 .left))) (s .pre .5) (s .pre .4)
+sub-result c =
+    let start = c .before .before .before in
+    let at-d = start .before in
+    let s = c .before .before .before .before .before in
+    diff-fits (found (start)) (sfits-of (at-d .d .given)) (sfits-of (c .before .n .given)) (sfits-of (c .result .given)) (s .pre .3 (far (start) (c .before .before .if1 .left))) (s .pre .5)
+    (s .pre .4)
 
 returns-2 : tie.Need-returns-2
-returns-2 c = let s = c .before .before .before .before .before in diff-back (found (c .before .before .before)) (sfits-of (c .before .before .before .before .d .given)) (sfits-of (c .before .n .given)) (sfits-of (c .result .given)) (s .pre .3 (far (c .before .before .before) (c .before .before .if1 .left))) (s .pre .5) (s .pre .4) ∙ sym (back-total (s .args .heights .now) (s .args .s) (s .args .v) (found (c .before .before .before)) (far (c .before .before .before) (c .before .before .if1 .left)))
+returns-2 c =
+    let start = c .before .before .before in
+    let at-d = start .before in
+    let s = c .before .before .before .before .before in
+    diff-back (found (start)) (sfits-of (at-d .d .given)) (sfits-of (c .before .n .given)) (sfits-of (c .result .given)) (s .pre .3 (far (start) (c .before .before .if1 .left))) (s .pre .5)
+    (s .pre .4)
+    ∙ sym (back-total (s .args .heights .now) (s .args .s) (s .args .v) (found (start)) (far (start) (c .before .before .if1 .left)))
 
 pub shift-back-spec : {M : Type 1} → statement M
 shift-back-spec =

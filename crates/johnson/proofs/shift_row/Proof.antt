@@ -42,16 +42,34 @@ cast-v : tie.Need-cast-v Inv-loop μ-loop
 cast-v c = omega (arith, c .shared-slice-known5 .given (c .before .before .loop .i))
 
 shift-at-requires : tie.Need-shift-at-requires Inv-loop μ-loop
-shift-at-requires c κs = let s = c .before .before .before .before .before .before .before .before in let w = s .pre .1 in (row-weight (s .pre .0) w (c .before .before .before .loop .inv) (c .before .before .loop-test .taken), omega (arith, s .pre .0, w .long), row-head (s .pre .0) w (c .before .before .before .loop .inv) (c .before .before .loop-test .taken) .1, row-small (s .pre .0) w (c .before .before .before .loop .inv) (c .before .before .loop-test .taken), w .deep (s .args .u), w .deep (getD (s .args .heads .now) (c .before .before .before .loop .i) 0))
+shift-at-requires c κs =
+    let at-loop = c .before .before .before in
+    let s = c .before .before .before .before .before .before .before .before in
+    let w = s .pre .1 in (
+      row-weight (s .pre .0) w (at-loop .loop .inv) (c .before .before .loop-test .taken),
+      omega (arith, s .pre .0, w .long),
+      row-head (s .pre .0) w (at-loop .loop .inv) (c .before .before .loop-test .taken) .1,
+      row-small (s .pre .0) w (at-loop .loop .inv) (c .before .before .loop-test .taken),
+      w .deep (s .args .u),
+      w .deep (getD (s .args .heads .now) (at-loop .loop .i) 0),
+    )
 
 add-i : tie.Need-add-i Inv-loop μ-loop
-add-i c = let s = c .before .before .before .before .before .before .before .before .before .before in omega (arith, row-place (s .pre .0) (s .pre .1) (c .before .before .before .before .before .loop .inv) (c .before .before .before .before .loop-test .taken), s .pre .1 .few)
+add-i c =
+    let at-loop-test = c .before .before .before .before in
+    let at-loop = at-loop-test .before in
+    let s = c .before .before .before .before .before .before .before .before .before .before in
+    omega (arith, row-place (s .pre .0) (s .pre .1) (at-loop .loop .inv) (at-loop-test .loop-test .taken), s .pre .1 .few)
 
 loop-less : tie.Need-loop-less Inv-loop μ-loop
 loop-less c = search needs
 
 loop-again : tie.Need-loop-again Inv-loop μ-loop
-loop-again c = let s = c .before .before .before .before .before .before .before .before .before .before in row-next (s .pre .0) (s .pre .1) (c .before .before .before .before .before .loop .inv) (c .before .before .before .before .loop-test .taken) (c .before .shift-at .ensures)
+loop-again c =
+    let at-loop-test = c .before .before .before .before in
+    let at-loop = at-loop-test .before in
+    let s = c .before .before .before .before .before .before .before .before .before .before in
+    row-next (s .pre .0) (s .pre .1) (at-loop .loop .inv) (at-loop-test .loop-test .taken) (c .before .shift-at .ensures)
 
 same-length : tie.Need-same-length Inv-loop μ-loop
 same-length c = c .before .loop .inv .long

@@ -27,16 +27,26 @@ shift-back-requires : tie.Need-shift-back-requires Inv-loop μ-loop
 shift-back-requires c κs = show-asks (c .before .before .before .before .before .pre) (c .before .before .before .loop .inv) (c .before .before .loop-test .taken)
 
 add-t14 : tie.Need-add-t14 Inv-loop μ-loop
-add-t14 c = let h = show-room (c .before .before .before .before .before .before .pre) (c .before .before .before .before .loop .inv) (c .before .before .before .loop-test .taken) (c .before .if1 .taken) in search needs
+add-t14 c =
+    let h = show-room (c .before .before .before .before .before .before .pre) (c .before .before .before .before .loop .inv) (c .before .before .before .loop-test .taken) (c .before .if1 .taken) in
+    search needs
 
 mul-t15 : tie.Need-mul-t15 Inv-loop μ-loop
-mul-t15 c = let h = show-room (c .before .before .before .before .before .before .pre) (c .before .before .before .before .loop .inv) (c .before .before .before .loop-test .taken) (c .before .if1 .taken) in search needs
+mul-t15 c =
+    let h = show-room (c .before .before .before .before .before .before .pre) (c .before .before .before .before .loop .inv) (c .before .before .before .loop-test .taken) (c .before .if1 .taken) in
+    search needs
 
 slice-set-from-matrix : tie.Need-slice-set-from-matrix Inv-loop μ-loop
-slice-set-from-matrix c = show-room (c .before .before .before .before .before .before .pre) (c .before .before .before .before .loop .inv) (c .before .before .before .loop-test .taken) (c .before .if1 .taken)
+slice-set-from-matrix c =
+    let at-loop-test = c .before .before .before in
+    let at-loop = at-loop-test .before in
+    let start = at-loop .before .before in
+    show-room (start .pre) (at-loop .loop .inv) (at-loop-test .loop-test .taken) (c .before .if1 .taken)
 
 add-j : tie.Need-add-j Inv-loop μ-loop
-add-j c = let h = show-room (c .before .before .before .before .before .before .pre) (c .before .before .before .before .loop .inv) (c .before .before .before .loop-test .taken) (c .before .if1 .taken) in search needs
+add-j c =
+    let h = show-room (c .before .before .before .before .before .before .pre) (c .before .before .before .before .loop .inv) (c .before .before .before .loop-test .taken) (c .before .if1 .taken) in
+    search needs
 
 add-v : tie.Need-add-v Inv-loop μ-loop
 add-v c = omega (arith, c .before .before .before .before .before .pre .bounded)
@@ -46,9 +56,11 @@ loop-less c = search needs
 
 loop-again : tie.Need-loop-again Inv-loop μ-loop
 loop-again c =
+    let at-loop = c .before .before .before in
+    let start = at-loop .before .before in
     ⊎-elim
-    (λ k. rw (k .2, k .3) (show-next (c .before .before .before .before .before .pre) (c .before .before .before .loop .inv) (c .before .before .loop-test .taken) _ (k .0 .taken) (toZ-ofZ w64 _ (sfits-of (k .1 .ok)) ∙ k .1 .ensures)))
-    (λ k. rw (k .1, k .2) (show-skip (c .before .before .before .before .before .pre) (c .before .before .before .loop .inv) (c .before .before .loop-test .taken) (k .0 .left)))
+    (λ k. rw (k .2, k .3) (show-next (start .pre) (at-loop .loop .inv) (c .before .before .loop-test .taken) _ (k .0 .taken) (toZ-ofZ w64 _ (sfits-of (k .1 .ok)) ∙ k .1 .ensures)))
+    (λ k. rw (k .1, k .2) (show-skip (start .pre) (at-loop .loop .inv) (c .before .before .loop-test .taken) (k .0 .left)))
     (c .if1 .came)
 
 same-length : tie.Need-same-length Inv-loop μ-loop

@@ -10,7 +10,8 @@ slice-relend-prefix-prepare : tie.Need-slice-relend-prefix-prepare
 slice-relend-prefix-prepare c = search needs
 
 slice-aggregate-prepare : tie.Need-slice-aggregate-prepare
-slice-aggregate-prepare c = let s = c .before .before .before .before .before .before .before .before .before .before .before .before in part-long (s .args .map .bound) (s .args .heights .now) (s .pre .room .heights)
+slice-aggregate-prepare c =
+    let s = c .before .before .before .before .before .before .before .before .before .before .before .before in part-long (s .args .map .bound) (s .args .heights .now) (s .pre .room .heights)
 
 prepare-requires : tie.Need-prepare-requires
 prepare-requires c κs = ripe-part (c .before .before .before .before .before .before .before .before .before .before .before .before .pre)
@@ -28,19 +29,38 @@ same-length-4 : tie.Need-same-length-4
 same-length-4 c = search needs
 
 returns : tie.Need-returns
-returns c = solved-yes (c .before .before .before .before .before .before .before .before .before .before .before .before .before .before .before .before .before .before .before .before .pre) (c .before .before .before .before .before .before .before .prepare .ensures) (c .if1 .taken)
+returns c =
+    let at-prepare = c .before .before .before .before .before .before .before in
+    let start = at-prepare .before .before .before .before .before .before .before .before .before .before .before .before .before in
+    solved-yes (start .pre) (at-prepare .prepare .ensures) (c .if1 .taken)
 
 count-present-requires : tie.Need-count-present-requires
-count-present-requires c κs = let s = c .before .before .before .before .before .before .before .before .before .before .before .before .before .before .before .before .before .before .before .before in let a = s .args in whole-ints (a .map .bound) (a .map .count) (a .map .directed) (a .marks .now) (a .from .now) (a .to .now) (a .costs .now) (s .pre .whole) .marked
+count-present-requires c κs =
+    let s = c .before .before .before .before .before .before .before .before .before .before .before .before .before .before .before .before .before .before .before .before in
+    let a = s .args in
+    whole-ints (a .map .bound) (a .map .count) (a .map .directed) (a .marks .now) (a .from .now) (a .to .now) (a .costs .now) (s .pre .whole) .marked
 
 slice-reshare-prefix-fill : tie.Need-slice-reshare-prefix-fill
 slice-reshare-prefix-fill c = search needs
 
 slice-aggregate-fill : tie.Need-slice-aggregate-fill
-slice-aggregate-fill c = heights-long (c .before .before .before .before .before .before .before .before .before .before .before .before .before .before .before .before .before .before .before .before .before .before .before .before .before .pre) (c .before .before .before .before .before .before .before .before .before .before .before .before .prepare .ensures)
+slice-aggregate-fill c =
+    let at-prepare = c .before .before .before .before .before .before .before .before .before .before .before .before in
+    let start = at-prepare .before .before .before .before .before .before .before .before .before .before .before .before .before in
+    heights-long (start .pre) (at-prepare .prepare .ensures)
 
 fill-requires : tie.Need-fill-requires
-fill-requires c κs = let s = c .before .before .before .before .before .before .before .before .before .before .before .before .before .before .before .before .before .before .before .before .before .before .before .before .before .before .before .before .before .before .before in let a = s .args in (can-fill (s .pre) (c .before .before .before .before .before .before .before .before .before .before .before .before .before .before .before .before .before .before .prepare .ensures) (c .before .before .before .before .before .before .before .before .before .before .before .if1 .left) (c .before .before .before .before .before .before .before .before .before .before .count-present .ensures) (whole-ints (a .map .bound) (a .map .count) (a .map .directed) (a .marks .now) (a .from .now) (a .to .now) (a .costs .now) (s .pre .whole) .marked), s .pre .room .memory)
+fill-requires c κs =
+    let at-count-present = c .before .before .before .before .before .before .before .before .before .before in
+    let at-if1 = at-count-present .before in
+    let at-prepare = at-if1 .before .before .before .before .before .before .before in
+    let s = c .before .before .before .before .before .before .before .before .before .before .before .before .before .before .before .before .before .before .before .before .before .before .before
+    .before .before .before .before .before .before .before .before in
+    let a = s .args in (
+      can-fill (s .pre) (at-prepare .prepare .ensures) (at-if1 .if1 .left) (at-count-present .count-present .ensures)
+          (whole-ints (a .map .bound) (a .map .count) (a .map .directed) (a .marks .now) (a .from .now) (a .to .now) (a .costs .now) (s .pre .whole) .marked),
+      s .pre .room .memory,
+    )
 
 same-length-5 : tie.Need-same-length-5
 same-length-5 c = search needs
@@ -73,7 +93,13 @@ same-length-14 : tie.Need-same-length-14
 same-length-14 c = search needs
 
 returns-2 : tie.Need-returns-2
-returns-2 c = solved-no (c .before .before .before .before .before .before .before .before .before .before .before .before .before .before .before .before .before .before .before .before .before .before .before .before .before .before .before .before .before .before .before .before .before .before .before .before .before .before .before .before .before .pre) (c .before .before .before .before .before .before .before .before .before .before .before .before .before .before .before .before .before .before .before .before .before .before .before .before .before .before .before .before .prepare .ensures) (c .before .before .before .before .before .before .before .before .before .before .before .before .before .before .before .before .before .before .before .before .before .if1 .left) (c .before .before .before .before .before .before .before .before .before .before .before .before .before .before .before .before .before .before .before .before .count-present .ensures) (c .before .before .before .before .before .before .before .before .before .fill .ensures .0) (c .before .before .before .before .before .before .before .before .before .fill .ensures .1)
+returns-2 c =
+    let at-fill = c .before .before .before .before .before .before .before .before .before in
+    let at-count-present = at-fill .before .before .before .before .before .before .before .before .before .before .before in
+    let at-if1 = at-count-present .before in
+    let at-prepare = at-if1 .before .before .before .before .before .before .before in
+    let start = at-prepare .before .before .before .before .before .before .before .before .before .before .before .before .before in
+    solved-no (start .pre) (at-prepare .prepare .ensures) (at-if1 .if1 .left) (at-count-present .count-present .ensures) (at-fill .fill .ensures .0) (at-fill .fill .ensures .1)
 
 pub solve-spec : {M : Type 1} → statement M
 solve-spec =

@@ -11,7 +11,6 @@ use lib.ListN.{getD}
 use mir.Syntax.{w32, w64}
 use mir.Val.{SFits}
 use mir.ValLaws.{toZ-ofZ}
-use Prim.Native.Nat.{_-_}
 use Rattle.whole.specs.Zed.{zed, sum, fits-in, widen, machine, machine-is, machine-back}
 
 -- the potential and the cost that were read, and their sum: each fits

@@ -5,7 +5,11 @@ use Rattle.johnson.proofs.wipe.Statement.{statement}
 use Rattle.johnson.proofs.wipe.Tie as tie
 
 returns : tie.Need-returns
-returns c = λ i. record { rows = c .before .before .before .before .before .before .before .before .before .before .before .before .before .before .before .before .before .before .before .before .before .before .wipe .ensures i; heights = c .before .before .before .before .before .before .before .before .before .before .before .before .before .before .before .clear-i64 .ensures i; memory = c .before .before .before .before .before .before .before .before .wipe-memory .ensures i }
+returns c =
+    let at-wipe-memory = c .before .before .before .before .before .before .before .before in
+    let at-clear-i64 = at-wipe-memory .before .before .before .before .before .before .before in
+    let at-wipe = at-clear-i64 .before .before .before .before .before .before .before in
+    λ i. record { rows = at-wipe .wipe .ensures i; heights = at-clear-i64 .clear-i64 .ensures i; memory = at-wipe-memory .wipe-memory .ensures i }
 
 pub wipe-spec : {M : Type 1} → statement M
 wipe-spec =

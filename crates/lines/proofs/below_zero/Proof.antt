@@ -2,7 +2,6 @@
 -- Assumes nothing.
 use Rattle.lines.proofs.below_zero.Statement.{statement}
 use Rattle.lines.proofs.below_zero.Tie as tie
-use Prim.Native.Nat.{_-_}
 use Rattle.lines.proofs.Sizes.{below-by}
 
 returns : tie.Need-returns

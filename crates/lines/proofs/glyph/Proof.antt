@@ -2,7 +2,6 @@
 -- Assumes nothing.
 use Rattle.lines.proofs.glyph.Statement.{statement}
 use Rattle.lines.proofs.glyph.Tie as tie
-use Prim.Native.Nat.{_-_}
 use borrow.Author.Needs.{needs}
 use borrow.Author.Tests.{lt-ltb, le-ltb}
 use Rattle.lines.specs.Text.{glyph}

@@ -2,7 +2,6 @@
 -- Assumes nothing.
 use Rattle.lines.proofs.put_byte.Statement.{statement}
 use Rattle.lines.proofs.put_byte.Tie as tie
-use Prim.Native.Nat.{_-_}
 use borrow.Author.Needs.{needs}
 use Rattle.lines.proofs.Places.{one-byte}
 

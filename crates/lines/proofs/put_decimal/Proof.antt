@@ -2,7 +2,6 @@
 -- Assumes nothing.
 use Rattle.lines.proofs.put_decimal.Statement.{statement}
 use Rattle.lines.proofs.put_decimal.Tie as tie
-use Prim.Native.Nat.{_-_}
 use native.Mathlib.Omega.{arith}
 use borrow.Author.Needs.{needs}
 use Rattle.lines.specs.Text.{decimalText}

@@ -5,7 +5,7 @@ use Rattle.lines.proofs.put_signed.Tie as tie
 use mathlib.Core.Path.{_≡_, sym, ap, _∙_}
 use mathlib.Core.Bool.{true, false}
 use mathlib.Core.List.{[], _∷_}
-use Prim.Native.Nat.{ℕ, suc, _+_, _-_}
+use Prim.Native.Nat.{ℕ, suc, _+_}
 use native.Mathlib.Omega.{arith}
 use borrow.Author.Needs.{needs}
 use lib.ListN.{length}
@@ -44,7 +44,12 @@ returns c =
     let e = text-below (v .args .n) (below (c .before .before .before .before .before .before .before .before .before)) in
     let s : c .before .before .before .size-below .result ≡ mag (v .args .n) + 1 = c .before .before .before .size-below .ensures ∙ ap (λ (z : ℤ). mag z + 1) (toZ-ofZ w64 (v .args .n) (v .fits .n)) in
     let l : length (signedText (v .args .n)) ≡ suc (length (decimalText (mag (v .args .n) + 1))) = ap length e in
-    rw e (rw (← s) (printed-more (v .args .out .now) (v .args .at) (45 ∷ []) (omega (arith, l, v .pre)) (decimalText (c .before .before .before .size-below .result)) (c .before .before .before .before .before .before .before .put-byte .last .0) (c .before .before .put-decimal .last .0) (c .before .before .before .before .before .before .before .put-byte .result) (c .before .before .put-decimal .result) (c .before .before .before .before .before .before .before .put-byte .ensures) (c .before .before .put-decimal .ensures)))
+    rw e
+    (rw (← s)
+    (printed-more (v .args .out .now) (v .args .at) (45 ∷ []) (omega (arith, l, v .pre)) (decimalText (c .before .before .before .size-below .result))
+    (c .before .before .before .before .before .before .before .put-byte .last .0) (c .before .before .put-decimal .last .0)
+    (c .before .before .before .before .before .before .before .put-byte .result) (c .before .before .put-decimal .result)
+    (c .before .before .before .before .before .before .before .put-byte .ensures) (c .before .before .put-decimal .ensures)))
 
 size-from-requires : tie.Need-size-from-requires
 size-from-requires c κs = sym (c .before .before .below-zero .ensures) ∙ c .before .if1 .left
@@ -53,7 +58,8 @@ put-decimal-requires-2 : tie.Need-put-decimal-requires-2
 put-decimal-requires-2 c κs =
     let v = c .before .before .before .before .before in
     let s : c .size-from .result ≡ mag (v .args .n) = c .size-from .ensures ∙ ap mag (toZ-ofZ w64 (v .args .n) (v .fits .n)) in
-    let l : length (signedText (v .args .n)) ≡ length (decimalText (c .size-from .result)) = ap length (text-from (v .args .n) (above (c .before .before))) ∙ ap (λ (k : ℕ). length (decimalText k)) (sym s) in
+    let l : length (signedText (v .args .n)) ≡ length (decimalText (c .size-from .result)) =
+    ap length (text-from (v .args .n) (above (c .before .before))) ∙ ap (λ (k : ℕ). length (decimalText k)) (sym s) in
     omega (arith, l, v .pre)
 
 returns-2 : tie.Need-returns-2

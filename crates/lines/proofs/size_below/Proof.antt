@@ -3,7 +3,7 @@
 use Rattle.lines.proofs.size_below.Statement.{statement}
 use Rattle.lines.proofs.size_below.Tie as tie
 use mathlib.Core.Path.{ap}
-use Prim.Native.Nat.{ℕ, _+_, _-_}
+use Prim.Native.Nat.{ℕ, _+_}
 use native.Mathlib.Omega.{arith}
 use Rattle.lines.proofs.Sizes.{turned-fits, turned-back, cast-up}
 use lib.IntN.{natAbs}

@@ -3,7 +3,6 @@
 use Rattle.lines.proofs.size_from.Statement.{statement}
 use Rattle.lines.proofs.size_from.Tie as tie
 use mathlib.Core.Path.{ap}
-use Prim.Native.Nat.{_-_}
 use Rattle.lines.proofs.Sizes.{upward, cast-up}
 use lib.IntN.{natAbs}
 

@@ -3,7 +3,6 @@
 use Rattle.mapfile.proofs.absent_at.Statement.{statement}
 use Rattle.mapfile.proofs.absent_at.Tie as tie
 use mathlib.Core.Path.{ap}
-use Prim.Native.Nat.{_-_}
 use borrow.Author.Needs.{needs}
 use Rattle.mapfile.specs.Records.{absentAt}
 use Rattle.mapfile.specs.declared.Record.the-variants.{Absent}

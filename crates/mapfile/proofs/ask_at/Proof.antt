@@ -2,7 +2,6 @@
 -- Assumes nothing.
 use Rattle.mapfile.proofs.ask_at.Statement.{statement}
 use Rattle.mapfile.proofs.ask_at.Tie as tie
-use Prim.Native.Nat.{_-_}
 use borrow.Author.Needs.{needs}
 use Rattle.mapfile.specs.Records.{askAt}
 

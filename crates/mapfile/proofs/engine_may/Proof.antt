@@ -2,7 +2,6 @@
 -- Assumes nothing.
 use Rattle.mapfile.proofs.engine_may.Statement.{statement}
 use Rattle.mapfile.proofs.engine_may.Tie as tie
-use Prim.Native.Nat.{_-_}
 use borrow.Author.Tests.{le-leb, lt-leb, eq-eqb, ne-eqb}
 use Rattle.mapfile.specs.Load.{engineMay}
 

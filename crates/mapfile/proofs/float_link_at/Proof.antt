@@ -2,7 +2,6 @@
 -- Assumes nothing.
 use Rattle.mapfile.proofs.float_link_at.Statement.{statement}
 use Rattle.mapfile.proofs.float_link_at.Tie as tie
-use Prim.Native.Nat.{_-_}
 use borrow.Author.Needs.{needs}
 use borrow.Author.Tests.{le-leb, lt-leb}
 use Rattle.mapfile.specs.Records.{floatLinkAt}

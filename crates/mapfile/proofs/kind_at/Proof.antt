@@ -2,7 +2,6 @@
 -- Assumes nothing.
 use Rattle.mapfile.proofs.kind_at.Statement.{statement}
 use Rattle.mapfile.proofs.kind_at.Tie as tie
-use Prim.Native.Nat.{_-_}
 use borrow.Author.Needs.{needs}
 use borrow.Author.Tests.{eq-eqb, ne-eqb}
 use Rattle.mapfile.specs.Records.{kindAt}
@@ -25,7 +24,10 @@ returns-4 c = simp (eq-eqb _ _ (c .before .if3 .taken), ne-eqb _ _ (c .if4 .left
 
 returns-5 : tie.Need-returns-5
 unfolding kindAt
-returns-5 c = simp (eq-eqb _ _ (c .before .before .if5 .taken), eq-eqb _ _ (c .before .if6 .taken), ne-eqb _ _ (c .before .before .before .before .if1 .left), ne-eqb _ _ (c .before .before .before .if3 .left)) (c .link-at .ensures)
+returns-5 c =
+    let at-if3 = c .before .before .before in
+    let at-if1 = at-if3 .before in
+    simp (eq-eqb _ _ (c .before .before .if5 .taken), eq-eqb _ _ (c .before .if6 .taken), ne-eqb _ _ (at-if1 .if1 .left), ne-eqb _ _ (at-if3 .if3 .left)) (c .link-at .ensures)
 
 returns-6 : tie.Need-returns-6
 unfolding kindAt
@@ -33,23 +35,57 @@ returns-6 c = simp (eq-eqb _ _ (c .before .if5 .taken), ne-eqb _ _ (c .if6 .left
 
 returns-7 : tie.Need-returns-7
 unfolding kindAt
-returns-7 c = simp (eq-eqb _ _ (c .before .before .if7 .taken), eq-eqb _ _ (c .before .if8 .taken), ne-eqb _ _ (c .before .before .before .before .before .if1 .left), ne-eqb _ _ (c .before .before .before .before .if3 .left), ne-eqb _ _ (c .before .before .before .if5 .left)) (c .float-link-at .ensures)
+returns-7 c =
+    let at-if5 = c .before .before .before in
+    let at-if3 = at-if5 .before in
+    let at-if1 = at-if3 .before in
+    simp (eq-eqb _ _ (c .before .before .if7 .taken), eq-eqb _ _ (c .before .if8 .taken), ne-eqb _ _ (at-if1 .if1 .left), ne-eqb _ _ (at-if3 .if3 .left), ne-eqb _ _ (at-if5 .if5 .left))
+    (c .float-link-at .ensures)
 
 returns-8 : tie.Need-returns-8
 unfolding kindAt
-returns-8 c = simp (eq-eqb _ _ (c .before .if7 .taken), ne-eqb _ _ (c .if8 .left), ne-eqb _ _ (c .before .before .before .before .if1 .left), ne-eqb _ _ (c .before .before .before .if3 .left), ne-eqb _ _ (c .before .before .if5 .left))
+returns-8 c =
+    let at-if3 = c .before .before .before in
+    let at-if1 = at-if3 .before in
+    simp (eq-eqb _ _ (c .before .if7 .taken), ne-eqb _ _ (c .if8 .left), ne-eqb _ _ (at-if1 .if1 .left), ne-eqb _ _ (at-if3 .if3 .left), ne-eqb _ _ (c .before .before .if5 .left))
 
 returns-9 : tie.Need-returns-9
 unfolding kindAt
-returns-9 c = simp (eq-eqb _ _ (c .before .before .if9 .taken), eq-eqb _ _ (c .before .if10 .taken), ne-eqb _ _ (c .before .before .before .before .before .before .if1 .left), ne-eqb _ _ (c .before .before .before .before .before .if3 .left), ne-eqb _ _ (c .before .before .before .before .if5 .left), ne-eqb _ _ (c .before .before .before .if7 .left)) (c .ask-at .ensures)
+returns-9 c =
+    let at-if7 = c .before .before .before in
+    let at-if5 = at-if7 .before in
+    let at-if3 = at-if5 .before in
+    let at-if1 = at-if3 .before in
+    simp (
+      eq-eqb _ _ (c .before .before .if9 .taken),
+      eq-eqb _ _ (c .before .if10 .taken),
+      ne-eqb _ _ (at-if1 .if1 .left),
+      ne-eqb _ _ (at-if3 .if3 .left),
+      ne-eqb _ _ (at-if5 .if5 .left),
+      ne-eqb _ _ (at-if7 .if7 .left),
+    ) (c .ask-at .ensures)
 
 returns-10 : tie.Need-returns-10
 unfolding kindAt
-returns-10 c = simp (eq-eqb _ _ (c .before .if9 .taken), ne-eqb _ _ (c .if10 .left), ne-eqb _ _ (c .before .before .before .before .before .if1 .left), ne-eqb _ _ (c .before .before .before .before .if3 .left), ne-eqb _ _ (c .before .before .before .if5 .left), ne-eqb _ _ (c .before .before .if7 .left))
+returns-10 c =
+    let at-if5 = c .before .before .before in
+    let at-if3 = at-if5 .before in
+    let at-if1 = at-if3 .before in
+    simp (
+      eq-eqb _ _ (c .before .if9 .taken),
+      ne-eqb _ _ (c .if10 .left),
+      ne-eqb _ _ (at-if1 .if1 .left),
+      ne-eqb _ _ (at-if3 .if3 .left),
+      ne-eqb _ _ (at-if5 .if5 .left),
+      ne-eqb _ _ (c .before .before .if7 .left),
+    )
 
 returns-11 : tie.Need-returns-11
 unfolding kindAt
-returns-11 c = simp (ne-eqb _ _ (c .before .before .before .before .if1 .left), ne-eqb _ _ (c .before .before .before .if3 .left), ne-eqb _ _ (c .before .before .if5 .left), ne-eqb _ _ (c .before .if7 .left), ne-eqb _ _ (c .if9 .left))
+returns-11 c =
+    let at-if3 = c .before .before .before in
+    let at-if1 = at-if3 .before in
+    simp (ne-eqb _ _ (at-if1 .if1 .left), ne-eqb _ _ (at-if3 .if3 .left), ne-eqb _ _ (c .before .before .if5 .left), ne-eqb _ _ (c .before .if7 .left), ne-eqb _ _ (c .if9 .left))
 
 pub kind-at-spec : {M : Type 1} → statement M
 kind-at-spec =

@@ -3,7 +3,7 @@
 use Rattle.mapfile.proofs.link_at.Statement.{statement}
 use Rattle.mapfile.proofs.link_at.Tie as tie
 use mathlib.Core.Path.{_≡_, ap, _∙_}
-use Prim.Native.Nat.{_+_, _-_}
+use Prim.Native.Nat.{_+_}
 use borrow.Author.Needs.{needs}
 use Rattle.mapfile.specs.Bytes.{u32At, costOf}
 use Rattle.mapfile.specs.Records.{linkAt}

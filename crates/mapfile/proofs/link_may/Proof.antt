@@ -2,7 +2,6 @@
 -- Assumes nothing.
 use Rattle.mapfile.proofs.link_may.Statement.{statement}
 use Rattle.mapfile.proofs.link_may.Tie as tie
-use Prim.Native.Nat.{_-_}
 use Rattle.mapfile.proofs.Steps.{may-early, may-float, may-integer}
 
 returns : tie.Need-returns

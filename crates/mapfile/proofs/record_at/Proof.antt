@@ -3,7 +3,7 @@
 use Rattle.mapfile.proofs.record_at.Statement.{statement}
 use Rattle.mapfile.proofs.record_at.Tie as tie
 use mathlib.Core.Path.{_≡_, _∙_}
-use Prim.Native.Nat.{_+_, _-_, _≤_, _<_}
+use Prim.Native.Nat.{_+_, _≤_, _<_}
 use native.Mathlib.Omega.{arith}
 use borrow.Author.Needs.{needs}
 use borrow.Author.Tests.{le-leb, lt-leb}

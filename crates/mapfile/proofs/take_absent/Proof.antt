@@ -6,7 +6,7 @@ use Rattle.mapfile.proofs.take_absent.Tie as tie
 use mathlib.Core.Path.{ap, _∙_}
 use lib.ListN.{set}
 use Rattle.mapfile.specs.Load.{stateOf, withMarks}
-use Rattle.mapfile.specs.declared.Walk.{Walk}
+use Rattle.mapfile.specs.declared.Reading.{Reading}
 use Rattle.mapfile.proofs.Steps.{broken-by, absent-late, absent-large, absent-done}
 
 returns : tie.Need-returns
@@ -16,14 +16,16 @@ returns c =
 
 returns-2 : tie.Need-returns-2
 returns-2 c =
-    let v = c .before .before .before .before .before .before .args in
-    λ xs ys cs bs os. let s = stateOf (v .w) (v .marks .now) xs ys cs bs os in broken-by s _ (c .broken2 .ensures) ∙ absent-large s (v .i) (c .before .before .before .if1 .left) (c .before .if2 .taken)
+    let at-if1 = c .before .before .before in
+    let start = at-if1 .before .before .before in
+    let v = start .args in
+    λ xs ys cs bs os. let s = stateOf (v .w) (v .marks .now) xs ys cs bs os in broken-by s _ (c .broken2 .ensures) ∙ absent-large s (v .i) (at-if1 .if1 .left) (c .before .if2 .taken)
 
 returns-3 : tie.Need-returns-3
 returns-3 c =
     let v = c .before .before .before .before .before .before .args in
     λ xs ys cs bs os. let s = stateOf (v .w) (v .marks .now) xs ys cs bs os in
-    ap (λ (w : Walk). withMarks w (set (v .marks .now) (v .i) 0) s) (c .onward .ensures) ∙ absent-done s (v .i) (c .before .before .before .if1 .left) (c .before .if2 .left)
+    ap (λ (w : Reading). withMarks w (set (v .marks .now) (v .i) 0) s) (c .onward .ensures) ∙ absent-done s (v .i) (c .before .before .before .if1 .left) (c .before .if2 .left)
 
 pub take-absent-spec : {M : Type 1} → statement M
 take-absent-spec =

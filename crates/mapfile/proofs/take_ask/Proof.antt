@@ -14,18 +14,28 @@ returns c =
 
 returns-2 : tie.Need-returns-2
 returns-2 c =
-    let v = c .before .before .before .before .before .args in
-    c .broken2 .ensures ∙ ask-other (v .w) (v .len) (v .engine) (v .source) (v .target) (c .before .before .before .if1 .left) (sym (c .before .before .engine-may .ensures) ∙ not-t _ (c .before .if2 .taken))
+    let at-if1 = c .before .before .before in
+    let start = at-if1 .before .before in
+    let v = start .args in
+    c .broken2 .ensures ∙ ask-other (v .w) (v .len) (v .engine) (v .source) (v .target) (at-if1 .if1 .left) (sym (c .before .before .engine-may .ensures) ∙ not-t _ (c .before .if2 .taken))
 
 returns-3 : tie.Need-returns-3
 returns-3 c =
-    let v = c .before .before .before .before .before .before .before .before .args in
-    c .broken-at .ensures ∙ ask-more (v .w) (v .len) (v .engine) (v .source) (v .target) (c .before .before .before .before .before .before .if1 .left) (sym (c .before .before .before .before .before .engine-may .ensures) ∙ not-f _ (c .before .before .before .before .if2 .left)) (c .before .before .if3 .taken)
+    let at-if2 = c .before .before .before .before in
+    let at-engine-may = at-if2 .before in
+    let at-if1 = at-engine-may .before in
+    let start = at-if1 .before .before in
+    let v = start .args in
+    c .broken-at .ensures
+    ∙ ask-more (v .w) (v .len) (v .engine) (v .source) (v .target) (at-if1 .if1 .left) (sym (at-engine-may .engine-may .ensures) ∙ not-f _ (at-if2 .if2 .left)) (c .before .before .if3 .taken)
 
 returns-4 : tie.Need-returns-4
 returns-4 c =
-    let v = c .before .before .before .before .before .before .args in
-    ask-done (v .w) (v .len) (v .engine) (v .source) (v .target) (c .before .before .before .before .if1 .left) (sym (c .before .before .before .engine-may .ensures) ∙ not-f _ (c .before .before .if2 .left)) (c .if3 .left)
+    let at-engine-may = c .before .before .before in
+    let at-if1 = at-engine-may .before in
+    let start = at-if1 .before .before in
+    let v = start .args in
+    ask-done (v .w) (v .len) (v .engine) (v .source) (v .target) (at-if1 .if1 .left) (sym (at-engine-may .engine-may .ensures) ∙ not-f _ (c .before .before .if2 .left)) (c .if3 .left)
 
 pub take-ask-spec : {M : Type 1} → statement M
 take-ask-spec =

@@ -2,7 +2,6 @@
 -- Assumes nothing.
 use Rattle.mapfile.proofs.u16_at.Statement.{statement}
 use Rattle.mapfile.proofs.u16_at.Tie as tie
-use Prim.Native.Nat.{_-_}
 use native.Mathlib.Omega.{arith}
 use borrow.Author.Needs.{needs}
 use Rattle.mapfile.specs.Bytes.{u16At}

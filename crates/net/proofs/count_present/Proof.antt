@@ -38,9 +38,14 @@ loop-less c = search needs
 
 loop-again : tie.Need-loop-again Inv-loop μ-loop
 loop-again c =
-    let l = c .before .before .before .loop in
-    let v = c .before .before .before .before .args in
-    (omega arith, l .inv .1, count-more (v .bound) (v .marks .now) (l .i) (l .p) _ (c .before .before .loop-test .taken) (l .inv .2) (⊎-elim (λ k. inl (k .0 .taken, k .1)) (λ k. inr (k .0 .left, k .1)) (c .if1 .came)))
+    let at-loop = c .before .before .before in
+    let start = at-loop .before in
+    let l = at-loop .loop in
+    let v = start .args in (
+      omega arith,
+      l .inv .1,
+      count-more (v .bound) (v .marks .now) (l .i) (l .p) _ (c .before .before .loop-test .taken) (l .inv .2) (⊎-elim (λ k. inl (k .0 .taken, k .1)) (λ k. inr (k .0 .left, k .1)) (c .if1 .came)),
+    )
 
 returns : tie.Need-returns Inv-loop μ-loop
 returns c =

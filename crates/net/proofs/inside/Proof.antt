@@ -2,9 +2,9 @@
 -- Assumes nothing.
 use Rattle.net.proofs.inside.Statement.{statement}
 use Rattle.net.proofs.inside.Tie as tie
-use mathlib.Core.Path.{_≡_, _∙_}
+use mathlib.Core.Path.{_∙_}
 use Rattle.table.proofs.Laws.{all-ends}
-use Rattle.net.proofs.Bounds.{Whole, whole-ints, long-ints}
+use Rattle.net.proofs.Bounds.{whole-ints, long-ints}
 
 all-inside-requires : tie.Need-all-inside-requires
 all-inside-requires c κs =

@@ -2,7 +2,7 @@
 -- Assumes nothing.
 use Rattle.net.proofs.whole_f64.Statement.{statement}
 use Rattle.net.proofs.whole_f64.Tie as tie
-use mathlib.Core.Path.{_≡_, ap, _∙_}
+use mathlib.Core.Path.{ap, _∙_}
 use Prim.Native.Nat.{ℕ}
 use borrow.Author.Needs.{needs}
 use Rattle.table.specs.Links.{lentWhole}

@@ -32,7 +32,12 @@ loop-less : tie.Need-loop-less Inv-loop μ-loop
 loop-less c = search needs
 
 loop-again : tie.Need-loop-again Inv-loop μ-loop
-loop-again c = (omega arith, c .before .before .before .loop .inv .1, c .before .before .before .loop .inv .2, all-more (c .before .before .before .loop .inv .3) (c .before .is-met .ensures .holds (not-false _ (c .if1 .left))))
+loop-again c = (
+  omega arith,
+  c .before .before .before .loop .inv .1,
+  c .before .before .before .loop .inv .2,
+  all-more (c .before .before .before .loop .inv .3) (c .before .is-met .ensures .holds (not-false _ (c .if1 .left))),
+)
 
 returns-2 : tie.Need-returns-2 Inv-loop μ-loop
 returns-2 c =

@@ -21,7 +21,8 @@ has-distance-requires-2 : tie.Need-has-distance-requires-2
 has-distance-requires-2 c κs = search needs
 
 returns-2 : tie.Need-returns-2
-returns-2 c = lost refl (c .before .before .before .has-distance .ensures .holds (not-false _ (c .before .before .if1 .left))) (c .before .has-distance2 .ensures .fails (not-true _ (c .if2 .taken))) refl
+returns-2 c =
+    lost refl (c .before .before .before .has-distance .ensures .holds (not-false _ (c .before .before .if1 .left))) (c .before .has-distance2 .ensures .fails (not-true _ (c .if2 .taken))) refl
 
 mul-plus : tie.Need-mul-plus
 mul-plus c = search needs
@@ -52,9 +53,11 @@ returns-3 : tie.Need-returns-3
 returns-3 c =
     let s = c .before .before .before in
     let o = s .before .before .before .before .before .before .before .before in
-    let n = next-is {d = getD (o .args .page .now) (o .args .u) (pos 0)} {c = o .args .cost} (sfits-of (s .before .before .plus-arg .given)) (o .fits .cost) (s .before .widen .ensures) (s .plus .ensures) (sfits-of (s .plus .ok)) in
+    let n = next-is {d = getD (o .args .page .now) (o .args .u) (pos 0)} {c = o .args .cost} (sfits-of (s .before .before .plus-arg .given)) (o .fits .cost) (s .before .widen .ensures)
+    (s .plus .ensures) (sfits-of (s .plus .ok)) in
     let y = read-at (o .args .page .now) (o .args .v) (c .before .before .lower-arg .given) in
-    more refl (s .before .before .before .before .before .before .has-distance .ensures .holds (not-false _ (s .before .before .before .before .before .if1 .left))) (look-lt n y (c .before .lower .ensures) (c .if3 .taken)) refl
+    more refl (s .before .before .before .before .before .before .has-distance .ensures .holds (not-false _ (s .before .before .before .before .before .if1 .left)))
+    (look-lt n y (c .before .lower .ensures) (c .if3 .taken)) refl
 
 mul-lower-2 : tie.Need-mul-lower-2
 mul-lower-2 c = search needs
@@ -69,7 +72,8 @@ returns-4 : tie.Need-returns-4
 returns-4 c =
     let s = c .before .before .before .before .before .before in
     let o = s .before .before .before .before .before .before .before .before in
-    let n = next-is {d = getD (o .args .page .now) (o .args .u) (pos 0)} {c = o .args .cost} (sfits-of (s .before .before .plus-arg .given)) (o .fits .cost) (s .before .widen .ensures) (s .plus .ensures) (sfits-of (s .plus .ok)) in
+    let n = next-is {d = getD (o .args .page .now) (o .args .u) (pos 0)} {c = o .args .cost} (sfits-of (s .before .before .plus-arg .given)) (o .fits .cost) (s .before .widen .ensures)
+    (s .plus .ensures) (sfits-of (s .plus .ok)) in
     let y = read-at (o .args .page .now) (o .args .v) (c .before .before .lower-arg2 .given) in
     less refl (s .before .before .before .before .has-distance2 .ensures .holds (not-false _ (s .before .before .before .if2 .left))) (look-lt y n (c .before .lower2 .ensures) (c .if4 .taken)) refl
 
@@ -81,14 +85,17 @@ same-length c = search needs
 
 returns-5 : tie.Need-returns-5
 returns-5 c =
+    let at-if3 = c .before .before .before in
+    let at-lower = at-if3 .before in
     let s = c .before .before .before .before .before .before in
     let o = s .before .before .before .before .before .before .before .before in
-    let n = next-is {d = getD (o .args .page .now) (o .args .u) (pos 0)} {c = o .args .cost} (sfits-of (s .before .before .plus-arg .given)) (o .fits .cost) (s .before .widen .ensures) (s .plus .ensures) (sfits-of (s .plus .ok)) in
+    let n = next-is {d = getD (o .args .page .now) (o .args .u) (pos 0)} {c = o .args .cost} (sfits-of (s .before .before .plus-arg .given)) (o .fits .cost) (s .before .widen .ensures)
+    (s .plus .ensures) (sfits-of (s .plus .ok)) in
     let y = read-at (o .args .page .now) (o .args .v) (c .before .before .lower-arg2 .given) in
     exact refl
     (s .before .before .before .before .before .before .has-distance .ensures .holds (not-false _ (s .before .before .before .before .before .if1 .left)))
     (s .before .before .before .before .has-distance2 .ensures .holds (not-false _ (s .before .before .before .if2 .left)))
-    (le-both (look-ge n y (c .before .before .before .before .lower .ensures) (c .before .before .before .if3 .left)) (look-ge y n (c .before .lower2 .ensures) (c .if4 .left)))
+    (le-both (look-ge n y (at-lower .lower .ensures) (at-if3 .if3 .left)) (look-ge y n (c .before .lower2 .ensures) (c .if4 .left)))
     refl
 
 pub arc-holds-spec : {M : Type 1} → statement M

@@ -37,7 +37,10 @@ loop-less : tie.Need-loop-less Inv-loop μ-loop
 loop-less c = search needs
 
 loop-again : tie.Need-loop-again Inv-loop μ-loop
-loop-again c = (omega arith, c .before .before .before .before .before .before .loop .inv .1, c .before .before .before .link-holds .ensures .holds (not-false _ (c .if1 .left)), omega (arith, c .before .before .before .link-holds .kept))
+loop-again c =
+    let at-link-holds = c .before .before .before in
+    let at-loop = at-link-holds .before .before .before in
+    (omega arith, at-loop .loop .inv .1, at-link-holds .link-holds .ensures .holds (not-false _ (c .if1 .left)), omega (arith, at-link-holds .link-holds .kept))
 
 same-length-2 : tie.Need-same-length-2 Inv-loop μ-loop
 same-length-2 c = search needs

@@ -39,10 +39,15 @@ same-length-2 c = search needs
 
 returns-4 : tie.Need-returns-4
 returns-4 c =
+    let at-arcs-hold = c .before .before .before .before .before in
+    let at-if2 = at-arcs-hold .before .before in
+    let at-all-in-range = at-if2 .before in
+    let at-if1 = at-all-in-range .before in
+    let at-if12 = at-if1 .before in
     verdict
-    (zero-is (sfits-of (c .before .before .before .before .before .before .before .before .before .before .if12 .given)) (c .before .before .before .before .before .before .before .before .before .if1 .left))
-    (c .before .before .before .before .before .before .before .before .all-in-range .ensures .holds (not-false _ (c .before .before .before .before .before .before .before .if2 .left)))
-    (c .before .before .before .before .before .arcs-hold .ensures .holds (not-false _ (c .before .before .if3 .left)))
+    (zero-is (sfits-of (at-if12 .if12 .given)) (at-if1 .if1 .left))
+    (at-all-in-range .all-in-range .ensures .holds (not-false _ (at-if2 .if2 .left)))
+    (at-arcs-hold .arcs-hold .ensures .holds (not-false _ (c .before .before .if3 .left)))
     (c .all-met .ensures)
 
 pub judge-spec : {M : Type 1} → statement M

@@ -74,11 +74,16 @@ same-length-3 c = search needs
 
 returns-3 : tie.Need-returns-3
 returns-3 c =
+    let at-arc-holds-arg4 = c .before .before .before in
+    let at-if2 = at-arc-holds-arg4 .before .before in
+    let at-if1 = at-if2 .before in
+    let at-arc-holds = at-if1 .before .before .before in
+    let at-arc-holds-arg2 = at-arc-holds .before in
     let o = c .before .before .before .before .before .before .before .before .before .before .before .before .before .before .before .before .before in
-    let q = toZ-ofZ w32 (getD (o .args .costs .now) (o .args .i) (pos 0)) (sfits-of (c .before .before .before .before .before .before .before .before .before .before .arc-holds-arg2 .given)) in
-    let q′ = toZ-ofZ w32 (getD (o .args .costs .now) (o .args .i) (pos 0)) (sfits-of (c .before .before .before .arc-holds-arg4 .given)) in
+    let q = toZ-ofZ w32 (getD (o .args .costs .now) (o .args .i) (pos 0)) (sfits-of (at-arc-holds-arg2 .arc-holds-arg2 .given)) in
+    let q′ = toZ-ofZ w32 (getD (o .args .costs .now) (o .args .i) (pos 0)) (sfits-of (at-arc-holds-arg4 .arc-holds-arg4 .given)) in
     link-both (o .pre .0) (o .pre .1)
-    q (c .before .before .before .before .before .before .before .before .before .arc-holds .ensures) (not-false _ (c .before .before .before .before .before .before .if1 .left)) (c .before .before .before .before .before .if2 .left)
+    q (at-arc-holds .arc-holds .ensures) (not-false _ (at-if1 .if1 .left)) (at-if2 .if2 .left)
     q′ (c .before .before .arc-holds2 .ensures)
 
 pub link-holds-spec : {M : Type 1} → statement M

@@ -32,8 +32,10 @@ same-length-3 c = search needs
 
 returns-3 : tie.Need-returns-3 Inv-loop μ-loop
 returns-3 c =
-    let l = c .before .before .before .before .before .before .before .before .before .before .loop in
-    counted (l .done) (putMid (l .done) (length (l .buf) - l .done) (l .buf) (c .before .before .before .before .before .before .before .read .last .1 .0)) (omega (arith, same-length-3 c, l .inv .0, l .inv .1))
+    let at-read = c .before .before .before .before .before .before .before in
+    let at-loop = at-read .before .before .before in
+    let l = at-loop .loop in
+    counted (l .done) (putMid (l .done) (length (l .buf) - l .done) (l .buf) (at-read .read .last .1 .0)) (omega (arith, same-length-3 c, l .inv .0, l .inv .1))
 
 pub read-all-spec : {M : Type 1} → statement M
 read-all-spec =

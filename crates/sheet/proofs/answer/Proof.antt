@@ -25,24 +25,39 @@ returns-5 : tie.Need-returns-5
 returns-5 c = as-also (λ t x. johnson (c .before .before .before .before .if5 .taken) x) (c .before .before .answer-johnson .ensures)
 
 answer-hops-f64-requires : tie.Need-answer-hops-f64-requires
-answer-hops-f64-requires c κs = c .before .before .before .before .before .before .before .before .before .before .before .before .before .before .before .before .before .before .before .before .before .before .pre .1
+answer-hops-f64-requires c κs =
+    let start = c .before .before .before .before .before .before .before .before .before .before .before .before .before .before .before .before .before .before .before .before .before .before in
+    start .pre .1
 
 returns-6 : tie.Need-returns-6
 returns-6 c = as-also (λ t x. hops64 (c .before .before .before .before .before .if6 .taken) (c .before .before .before .before .if7 .taken) x) (c .before .before .answer-hops-f64 .ensures)
 
 answer-hops-requires : tie.Need-answer-hops-requires
-answer-hops-requires c κs = c .before .before .before .before .before .before .before .before .before .before .before .before .before .before .before .before .before .before .before .before .before .before .pre .1
+answer-hops-requires c κs =
+    let start = c .before .before .before .before .before .before .before .before .before .before .before .before .before .before .before .before .before .before .before .before .before .before in
+    start .pre .1
 
 returns-7 : tie.Need-returns-7
 returns-7 c = as-also (λ t x. hops (c .before .before .before .before .before .if6 .taken) (c .before .before .before .before .if7 .left) x) (c .before .before .answer-hops .ensures)
 
 answer-dijkstra-path-requires : tie.Need-answer-dijkstra-path-requires
-answer-dijkstra-path-requires c κs = c .before .before .before .before .before .before .before .before .before .before .before .before .before .before .before .before .before .before .before .before .before .pre .1
+answer-dijkstra-path-requires c κs =
+    let start = c .before .before .before .before .before .before .before .before .before .before .before .before .before .before .before .before .before .before .before .before .before in
+    start .pre .1
 
 returns-8 : tie.Need-returns-8
 returns-8 c =
-    let w = c .before .before .before .before .before .before .before .before .before .before .before .before .before .before .before .before .before .before .before .before .before .before .before .before .args .w in
-    as-also (λ t x. dijkstraPath (is-seven (w .engine) (w .float) (c .before .before .before .before .before .before .before .before .before .before .before .before .before .before .before .before .before .before .before .before .before .before .before .before .pre .0) (c .before .before .before .before .before .before .before .before .before .before .before .before .before .before .if1 .left) (c .before .before .before .before .before .before .before .before .before .before .before .before .if2 .left) (c .before .before .before .before .before .before .before .before .before .before .if3 .left) (c .before .before .before .before .before .before .before .before .if4 .left) (c .before .before .before .before .before .before .if5 .left) (c .before .before .before .before .if6 .left)) x) (c .before .before .answer-dijkstra-path .ensures)
+    let at-if6 = c .before .before .before .before in
+    let at-if5 = at-if6 .before .before in
+    let at-if4 = at-if5 .before .before in
+    let at-if3 = at-if4 .before .before in
+    let at-if2 = at-if3 .before .before in
+    let at-if1 = at-if2 .before .before in
+    let start = at-if1 .before .before .before .before .before .before .before .before .before .before in
+    let w = start .args .w in
+    as-also
+    (λ t x. dijkstraPath (is-seven (w .engine) (w .float) (start .pre .0) (at-if1 .if1 .left) (at-if2 .if2 .left) (at-if3 .if3 .left) (at-if4 .if4 .left) (at-if5 .if5 .left) (at-if6 .if6 .left)) x)
+    (c .before .before .answer-dijkstra-path .ensures)
 
 pub answer-spec : {M : Type 1} → statement M
 answer-spec =

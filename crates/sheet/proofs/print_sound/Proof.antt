@@ -8,18 +8,27 @@ use Rattle.sheet.proofs.Puts.{engine-width, sound-lines}
 
 answer-requires : tie.Need-answer-requires
 answer-requires c κs =
-    let p = c .before .before .before .before .before .before .before .before .before .before .before .pre in
-    let e = c .before .before .before .print-engine in
-    (p .0, record { few = p .1; marked = p .2; room = omega (arith, e .ensures .ends, engine-width (c .before .before .before .before .before .before .before .before .before .before .before .args .w .engine), e .kept .0, p .3) })
+    let at-print-engine = c .before .before .before in
+    let start = at-print-engine .before .before .before .before .before .before .before .before in
+    let p = start .pre in
+    let e = at-print-engine .print-engine in
+    (p .0, record { few = p .1; marked = p .2; room = omega (arith, e .ensures .ends, engine-width (start .args .w .engine), e .kept .0, p .3) })
 
 print-end-requires : tie.Need-print-end-requires
 print-end-requires c κs =
-    let e = c .before .before .before .before .before .before .before .print-engine in
-    let a = c .before .before .before .answer in
-    omega (arith, e .ensures .ends, engine-width (c .before .before .before .before .before .before .before .before .before .before .before .before .before .before .before .args .w .engine), e .kept .0, a .ensures .1, a .kept, c .before .before .before .before .before .before .before .before .before .before .before .before .before .before .before .pre .3)
+    let at-answer = c .before .before .before in
+    let at-print-engine = at-answer .before .before .before .before in
+    let start = at-print-engine .before .before .before .before .before .before .before .before in
+    let e = at-print-engine .print-engine in
+    let a = at-answer .answer in
+    omega (arith, e .ensures .ends, engine-width (start .args .w .engine), e .kept .0, a .ensures .1, a .kept, start .pre .3)
 
 returns : tie.Need-returns
-returns c = sound-lines (c .before .before .before .before .before .before .before .before .before .before .before .before .before .before .before .before .before .before .pre .3) (c .before .before .before .before .before .before .before .before .before .before .print-engine .ensures) (c .before .before .before .before .before .before .answer .ensures) (c .before .before .print-end .ensures)
+returns c =
+    let at-answer = c .before .before .before .before .before .before in
+    let at-print-engine = at-answer .before .before .before .before in
+    let start = at-print-engine .before .before .before .before .before .before .before .before in
+    sound-lines (start .pre .3) (at-print-engine .print-engine .ensures) (at-answer .answer .ensures) (c .before .before .print-end .ensures)
 
 pub print-sound-spec : {M : Type 1} → statement M
 print-sound-spec =

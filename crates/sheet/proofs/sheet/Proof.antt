@@ -7,15 +7,25 @@ use native.Mathlib.Omega.{arith}
 use Rattle.sheet.proofs.Puts.{sheet-bad, ready, sheet-sound}
 
 returns : tie.Need-returns
-returns c = sheet-bad (c .before .before .before .before .before .before .before .before .before .before .before .before .before .before .before .before .before .before .args .file .now) (c .before .before .before .before .before .before .before .before .before .before .load .ensures) (c .before .before .if1 .taken) (omega (arith, c .print-bad .kept)) (c .print-bad .ensures)
+returns c =
+    let at-load = c .before .before .before .before .before .before .before .before .before .before in
+    let start = at-load .before .before .before .before .before .before .before .before in
+    sheet-bad (start .args .file .now) (at-load .load .ensures) (c .before .before .if1 .taken) (omega (arith, c .print-bad .kept)) (c .print-bad .ensures)
 
 print-sound-requires : tie.Need-print-sound-requires
 print-sound-requires c κs =
-    let r = ready (c .before .before .before .before .before .before .before .before .before .before .before .before .before .before .before .before .before .before .before .before .before .before .before .args .file .now) (c .before .before .before .before .before .before .before .before .before .before .before .before .before .before .before .load .ensures) (c .before .before .before .before .before .before .before .if1 .left) in
-    (r .0, r .1, omega (arith, r .1, c .before .before .before .before .before .before .before .before .before .before .before .before .before .before .before .load .kept), omega arith)
+    let at-if1 = c .before .before .before .before .before .before .before in
+    let at-load = at-if1 .before .before .before .before .before .before .before .before in
+    let start = at-load .before .before .before .before .before .before .before .before in
+    let r = ready (start .args .file .now) (at-load .load .ensures) (at-if1 .if1 .left) in
+    (r .0, r .1, omega (arith, r .1, at-load .load .kept), omega arith)
 
 returns-2 : tie.Need-returns-2
-returns-2 c = sheet-sound (c .before .before .before .before .before .before .before .before .before .before .before .before .before .before .before .before .before .before .before .before .before .before .before .before .args .file .now) (c .before .before .before .before .before .before .before .before .before .before .before .before .before .before .before .before .load .ensures) (c .before .before .before .before .before .before .before .before .if1 .left) (omega (arith, c .print-sound .kept)) (c .print-sound .ensures)
+returns-2 c =
+    let at-if1 = c .before .before .before .before .before .before .before .before in
+    let at-load = at-if1 .before .before .before .before .before .before .before .before in
+    let start = at-load .before .before .before .before .before .before .before .before in
+    sheet-sound (start .args .file .now) (at-load .load .ensures) (at-if1 .if1 .left) (omega (arith, c .print-sound .kept)) (c .print-sound .ensures)
 
 pub sheet-spec : {M : Type 1} → statement M
 sheet-spec =

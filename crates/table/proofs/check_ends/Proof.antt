@@ -21,11 +21,13 @@ all-inside-requires c κs =
 
 returns-2 : tie.Need-returns-2
 returns-2 c =
-    sym (no-whole _ _ _ _ _ (sym (c .before .before .before .lent-whole .ensures) ∙ not-false _ (c .before .before .if1 .left)) ∙ ap (λ (t : Bool). cond t 0 2) (sym (c .before .all-inside .ensures) ∙ not-true _ (c .if2 .taken)))
+    sym (no-whole _ _ _ _ _ (sym (c .before .before .before .lent-whole .ensures) ∙ not-false _ (c .before .before .if1 .left))
+    ∙ ap (λ (t : Bool). cond t 0 2) (sym (c .before .all-inside .ensures) ∙ not-true _ (c .if2 .taken)))
 
 returns-3 : tie.Need-returns-3
 returns-3 c =
-    sym (no-whole _ _ _ _ _ (sym (c .before .before .before .lent-whole .ensures) ∙ not-false _ (c .before .before .if1 .left)) ∙ ap (λ (t : Bool). cond t 0 2) (sym (c .before .all-inside .ensures) ∙ not-false _ (c .if2 .left)))
+    sym (no-whole _ _ _ _ _ (sym (c .before .before .before .lent-whole .ensures) ∙ not-false _ (c .before .before .if1 .left))
+    ∙ ap (λ (t : Bool). cond t 0 2) (sym (c .before .all-inside .ensures) ∙ not-false _ (c .if2 .left)))
 
 pub check-ends-spec : {M : Type 1} → statement M
 check-ends-spec =

@@ -44,7 +44,9 @@ is-present-requires-2 c κs = search needs
 
 returns-2 : tie.Need-returns-2 Inv-loop μ-loop
 returns-2 c =
-    sym (inside-stop-b (c .before .before .before .before .before .before .before .loop .inv .0) (c .before .before .before .before .before .before .loop-test .taken) (sym (c .before .is-present2 .ensures) ∙ not-true _ (c .if2 .taken)))
+    let at-loop-test = c .before .before .before .before .before .before in
+    let at-loop = at-loop-test .before in
+    sym (inside-stop-b (at-loop .loop .inv .0) (at-loop-test .loop-test .taken) (sym (c .before .is-present2 .ensures) ∙ not-true _ (c .if2 .taken)))
 
 add-i : tie.Need-add-i Inv-loop μ-loop
 add-i c = search needs
@@ -54,9 +56,13 @@ loop-less c = search needs
 
 loop-again : tie.Need-loop-again Inv-loop μ-loop
 loop-again c =
-    let v = c .before .before .before .before .before .before .before .loop .inv in
-    let h = c .before .before .before .before .before .before .loop-test .taken in
-    (v .0, omega arith, inside-step (v .0) h (v .2) (sym (c .before .before .before .before .is-present .ensures) ∙ not-false _ (c .before .before .before .if1 .left)) (sym (c .before .is-present2 .ensures) ∙ not-false _ (c .if2 .left)))
+    let at-if1 = c .before .before .before in
+    let at-is-present = at-if1 .before in
+    let at-loop-test = at-is-present .before .before in
+    let at-loop = at-loop-test .before in
+    let v = at-loop .loop .inv in
+    let h = at-loop-test .loop-test .taken in
+    (v .0, omega arith, inside-step (v .0) h (v .2) (sym (at-is-present .is-present .ensures) ∙ not-false _ (at-if1 .if1 .left)) (sym (c .before .is-present2 .ensures) ∙ not-false _ (c .if2 .left)))
 
 returns-3 : tie.Need-returns-3 Inv-loop μ-loop
 returns-3 c = sym (inside-done (c .before .loop .inv) (c .loop-test .left))

@@ -18,9 +18,12 @@ refused-requires c κs = search needs
 -- the table is refused
 returns : tie.Need-returns
 returns c =
-    let v = c .before .before .before .before .before .before .args in
+    let start = c .before .before .before .before .before .before in
+    let v = start .args in
     let e = c .before .before .check-ends .ensures in
-    c .refused .ensures ∙ (ap (λ (k : ℕ). placeNow k (v .map .count) 0 false) e ∙ place-refused (v .map .directed) (v .map .bound) (v .room) (v .marks .now) (v .a) (v .b) (v .map .count) (ends (v .from .now) (v .to .now)) (λ z. c .before .if1 .taken (e ∙ z)))
+    c .refused .ensures
+    ∙ (ap (λ (k : ℕ). placeNow k (v .map .count) 0 false) e
+    ∙ place-refused (v .map .directed) (v .map .bound) (v .room) (v .marks .now) (v .a) (v .b) (v .map .count) (ends (v .from .now) (v .to .now)) (λ z. c .before .if1 .taken (e ∙ z)))
 
 ends-present-requires : tie.Need-ends-present-requires
 ends-present-requires c κs =
@@ -32,8 +35,13 @@ refused-requires-2 c κs = search needs
 -- the record is
 returns-2 : tie.Need-returns-2
 returns-2 c =
-    let v = c .before .before .before .before .before .before .before .before .args in
-    c .refused2 .ensures ∙ place-outside (v .map .directed) (v .map .bound) (v .room) (v .marks .now) (v .a) (v .b) (v .map .count) (ends (v .from .now) (v .to .now)) (sym (c .before .before .before .before .check-ends .ensures) ∙ c .before .before .before .if1 .left) (sym (c .before .before .ends-present .ensures) ∙ not-true _ (c .before .if2 .taken))
+    let at-if1 = c .before .before .before in
+    let at-check-ends = at-if1 .before in
+    let start = at-check-ends .before .before .before .before in
+    let v = start .args in
+    c .refused2 .ensures
+    ∙ place-outside (v .map .directed) (v .map .bound) (v .room) (v .marks .now) (v .a) (v .b) (v .map .count) (ends (v .from .now) (v .to .now))
+    (sym (at-check-ends .check-ends .ensures) ∙ at-if1 .if1 .left) (sym (c .before .before .ends-present .ensures) ∙ not-true _ (c .before .if2 .taken))
 
 find-link-requires : tie.Need-find-link-requires
 find-link-requires c κs =
@@ -41,7 +49,9 @@ find-link-requires c κs =
     (omega (arith, w .few, c .before .before .before .before .before .before .before .pre), omega (arith, w .few, c .before .before .before .before .before .before .before .pre))
 
 -- the place that the search found, over the ends
-goes : (w : tie.After-find-link) → let v = w .before .before .before .before .before .before .before .before .args in placeAt (v .room) (v .map .count) (w .find-link .result) ≡ placing (v .map .directed) (v .map .bound) (v .room) (v .marks .now) (v .a) (v .b) (v .map .count) (ends (v .from .now) (v .to .now))
+goes : (w : tie.After-find-link)
+    → let v = w .before .before .before .before .before .before .before .before .args in
+    placeAt (v .room) (v .map .count) (w .find-link .result) ≡ placing (v .map .directed) (v .map .bound) (v .room) (v .marks .now) (v .a) (v .b) (v .map .count) (ends (v .from .now) (v .to .now))
 goes w =
     let s = w .before .before .before .before .before .before .before .before in
     let v = s .args in

@@ -33,9 +33,13 @@ all-below-requires-2 c κs = search needs
 
 returns-4 : tie.Need-returns-4
 returns-4 c =
-    let v = c .before .before .before .before .before .before .before .before .before .args in
+    let at-if2 = c .before .before .before in
+    let at-all-marked = at-if2 .before in
+    let start = at-all-marked .before .before .before .before .before in
+    let v = start .args in
     λ e.
-    plain {marks = v .marks .now} {xs = v .from .now} {ys = v .to .now} (record { marked = omega arith; inFrom = omega arith; inTo = omega arith }) (c .before .before .before .before .all-marked .ensures (not-false _ (c .before .before .before .if2 .left))) (c .before .before .all-below .ensures (not-false _ (c .before .if3 .left))) (c .all-below2 .ensures e)
+    plain {marks = v .marks .now} {xs = v .from .now} {ys = v .to .now} (record { marked = omega arith; inFrom = omega arith; inTo = omega arith })
+    (at-all-marked .all-marked .ensures (not-false _ (at-if2 .if2 .left))) (c .before .before .all-below .ensures (not-false _ (c .before .if3 .left))) (c .all-below2 .ensures e)
 
 pub plainly-inside-spec : {M : Type 1} → statement M
 plainly-inside-spec =

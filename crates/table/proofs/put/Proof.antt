@@ -18,10 +18,16 @@ abbrev place : tie.After-find-place → Place
 place w = let r = w .find-place .result in placeNow (r .refusal) (r .count) (r .slot) (r .fresh)
 
 -- it is the place of the record among the links
-sees : (w : tie.After-find-place) → let v = w .before .before .before .before .before .before .before .before .before .before .args in GoesInts (v .map .directed) (v .map .bound) (v .marks .now) (v .a) (v .b) (v .map .count) (v .from .now) (v .to .now) (v .costs .now) (place w)
+sees : (w : tie.After-find-place)
+    → let v = w .before .before .before .before .before .before .before .before .before .before .args in
+    GoesInts (v .map .directed) (v .map .bound) (v .marks .now) (v .a) (v .b) (v .map .count) (v .from .now) (v .to .now) (v .costs .now) (place w)
 sees w =
     let v = w .before .before .before .before .before .before .before .before .before .before .args in
-    record { goes = seen-place (v .map .directed) (v .map .bound) (v .marks .now) (v .a) (v .b) (v .map .count) (v .from .now) (v .to .now) (v .costs .now) (room-ints (v .from .now) (v .to .now) (v .costs .now) .inCosts) (w .before .before .before .room .ensures) (w .find-place .ensures) }
+    record {
+      goes =
+          seen-place (v .map .directed) (v .map .bound) (v .marks .now) (v .a) (v .b) (v .map .count) (v .from .now) (v .to .now) (v .costs .now)
+          (room-ints (v .from .now) (v .to .now) (v .costs .now) .inCosts) (w .before .before .before .room .ensures) (w .find-place .ensures);
+    }
 
 room-requires : tie.Need-room-requires
 room-requires c κs = search needs
@@ -35,7 +41,9 @@ find-place-requires c κs =
     (omega (arith, e, r .inFrom), omega (arith, e, r .inTo))
 
 -- the place lies in every slice
-slot : (c : tie.Then1) → let v = c .before .before .before .before .before .before .before .before .before .before .before .before .args in Room (place (c .before .before) .slot + 1) (v .from .now) (v .to .now) (length (v .costs .now))
+slot : (c : tie.Then1)
+    → let v = c .before .before .before .before .before .before .before .before .before .before .before .before .args in
+    Room (place (c .before .before) .slot + 1) (v .from .now) (v .to .now) (length (v .costs .now))
 slot c = slot-ints (sees (c .before .before)) (c .if1 .taken)
 
 mul-cost : tie.Need-mul-cost
@@ -62,7 +70,7 @@ returns c =
     let s = c .before .before .before .before .before .before .before .before .before .before .before .before .before .before .before .before .before .before .before in
     let w = c .before .before .before .before .before .before .before .before .before in
     let q = c .before .before .before .before .put-ends in
-    ap (λ (z : ℤ). intsNow (place w .no) (place w .count) (q .last .1 .1 .0) (q .last .1 .1 .1 .0) (set (s .args .costs .now) (place w .slot) z)) (toZ-ofZ w32 (s .args .cost) (s .fits .cost))
+    ap (λ (z : ℤ). intsNow (place w .number) (place w .count) (q .last .1 .1 .0) (q .last .1 .1 .1 .0) (set (s .args .costs .now) (place w .slot) z)) (toZ-ofZ w32 (s .args .cost) (s .fits .cost))
     ∙ put-stored (sees w) (s .args .cost) _ _ (c .before .before .before .before .before .before .before .if1 .taken) (q .ensures .0) (q .ensures .1)
 
 same-length-4 : tie.Need-same-length-4

@@ -14,10 +14,16 @@ abbrev place : tie.After-find-place → Place
 place w = let r = w .find-place .result in placeNow (r .refusal) (r .count) (r .slot) (r .fresh)
 
 -- it is the place of the record among the links
-sees : (w : tie.After-find-place) → let v = w .before .before .before .before .before .before .before .before .before .before .before .before .before .args in GoesFloats (v .map .directed) (v .map .bound) (v .marks .now) (v .a) (v .b) (v .map .count) (v .from .now) (v .to .now) (v .bits .now) (v .opens .now) (place w)
+sees : (w : tie.After-find-place)
+    → let v = w .before .before .before .before .before .before .before .before .before .before .before .before .before .args in
+    GoesFloats (v .map .directed) (v .map .bound) (v .marks .now) (v .a) (v .b) (v .map .count) (v .from .now) (v .to .now) (v .bits .now) (v .opens .now) (place w)
 sees w =
     let v = w .before .before .before .before .before .before .before .before .before .before .before .before .before .args in
-    record { goes = seen-place (v .map .directed) (v .map .bound) (v .marks .now) (v .a) (v .b) (v .map .count) (v .from .now) (v .to .now) (floatCosts (v .bits .now) (v .opens .now)) (room-floats (v .from .now) (v .to .now) (v .bits .now) (v .opens .now) .inCosts) (w .before .before .before .room-f64 .ensures) (w .find-place .ensures) }
+    record {
+      goes =
+          seen-place (v .map .directed) (v .map .bound) (v .marks .now) (v .a) (v .b) (v .map .count) (v .from .now) (v .to .now) (floatCosts (v .bits .now) (v .opens .now))
+          (room-floats (v .from .now) (v .to .now) (v .bits .now) (v .opens .now) .inCosts) (w .before .before .before .room-f64 .ensures) (w .find-place .ensures);
+    }
 
 room-f64-requires : tie.Need-room-f64-requires
 room-f64-requires c κs = search needs
@@ -31,7 +37,9 @@ find-place-requires c κs =
     (omega (arith, e, r .inFrom), omega (arith, e, r .inTo))
 
 -- the place lies in every slice
-slot : (c : tie.Then1) → let v = c .before .before .before .before .before .before .before .before .before .before .before .before .before .before .before .args in Room (place (c .before .before) .slot + 1) (v .from .now) (v .to .now) (length (v .bits .now)) × (place (c .before .before) .slot + 1 ≤ length (v .opens .now))
+slot : (c : tie.Then1)
+    → let v = c .before .before .before .before .before .before .before .before .before .before .before .before .before .before .before .args in
+    Room (place (c .before .before) .slot + 1) (v .from .now) (v .to .now) (length (v .bits .now)) × (place (c .before .before) .slot + 1 ≤ length (v .opens .now))
 slot c = slot-floats (sees (c .before .before)) (c .if1 .taken)
 
 mul-bits : tie.Need-mul-bits
@@ -61,9 +69,13 @@ same-length-4 c = search needs
 -- stored
 returns : tie.Need-returns
 returns c =
-    let v = c .before .before .before .before .before .before .before .before .before .before .before .before .before .before .before .before .before .before .before .before .before .before .args in
-    let q = c .before .before .before .before .put-ends in
-    put-f64-stored (sees (c .before .before .before .before .before .before .before .before .before)) (v .pattern) (v .opened) _ _ (c .before .before .before .before .before .before .before .if1 .taken) (q .ensures .0) (q .ensures .1)
+    let at-put-ends = c .before .before .before .before in
+    let at-if1 = at-put-ends .before .before .before in
+    let start = at-if1 .before .before in
+    let start2 = start .before .before .before .before .before .before .before .before .before .before .before .before .before in
+    let v = start2 .args in
+    let q = at-put-ends .put-ends in
+    put-f64-stored (sees (start)) (v .pattern) (v .opened) _ _ (at-if1 .if1 .taken) (q .ensures .0) (q .ensures .1)
 
 same-length-5 : tie.Need-same-length-5
 same-length-5 c = search needs
@@ -79,7 +91,9 @@ same-length-8 c = search needs
 
 -- refused
 returns-2 : tie.Need-returns-2
-returns-2 c = put-f64-kept (sees (c .before .before)) (c .before .before .before .before .before .before .before .before .before .before .before .before .before .before .before .args .pattern) (c .before .before .before .before .before .before .before .before .before .before .before .before .before .before .before .args .opened) (c .if1 .left)
+returns-2 c =
+    let start = c .before .before .before .before .before .before .before .before .before .before .before .before .before .before .before in
+    put-f64-kept (sees (c .before .before)) (start .args .pattern) (start .args .opened) (c .if1 .left)
 
 pub put-f64-spec : {M : Type 1} → statement M
 put-f64-spec =

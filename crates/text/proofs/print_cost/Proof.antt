@@ -11,18 +11,48 @@ use Rattle.lines.proofs.Pages.{page-start, page-more}
 use Rattle.text.proofs.Widths.{signed-width}
 
 put-signed-requires : tie.Need-put-signed-requires
-put-signed-requires c κs = omega (arith, c .before .before .before .before .before .before .before .put-bytes .ensures .ends, c .before .before .before .before .before .before .before .put-bytes .kept .0, c .before .before .before .put-space .ensures .ends, c .before .before .before .put-space .kept .0, signed-width (toZ w64 (ofZ w64 (c .before .before .before .before .before .before .before .before .before .before .before .args .cost))), c .before .before .before .before .before .before .before .before .before .before .before .pre)
+put-signed-requires c κs =
+    let at-put-space = c .before .before .before in
+    let at-put-bytes = at-put-space .before .before .before .before in
+    let start = at-put-bytes .before .before .before .before in
+    omega (
+      arith,
+      at-put-bytes .put-bytes .ensures .ends,
+      at-put-bytes .put-bytes .kept .0,
+      at-put-space .put-space .ensures .ends,
+      at-put-space .put-space .kept .0,
+      signed-width (toZ w64 (ofZ w64 (start .args .cost))),
+      start .pre,
+    )
 
 put-newline-requires : tie.Need-put-newline-requires
-put-newline-requires c κs = omega (arith, c .before .before .before .before .before .before .before .before .before .before .before .put-bytes .ensures .ends, c .before .before .before .before .before .before .before .before .before .before .before .put-bytes .kept .0, c .before .before .before .before .before .before .before .put-space .ensures .ends, c .before .before .before .before .before .before .before .put-space .kept .0, signed-width (toZ w64 (ofZ w64 (c .before .before .before .before .before .before .before .before .before .before .before .before .before .before .before .args .cost))), c .before .before .before .put-signed .ensures .ends, c .before .before .before .put-signed .kept .0, c .before .before .before .before .before .before .before .before .before .before .before .before .before .before .before .pre)
+put-newline-requires c κs =
+    let at-put-signed = c .before .before .before in
+    let at-put-space = at-put-signed .before .before .before .before in
+    let at-put-bytes = at-put-space .before .before .before .before in
+    let start = at-put-bytes .before .before .before .before in
+    omega (
+      arith,
+      at-put-bytes .put-bytes .ensures .ends,
+      at-put-bytes .put-bytes .kept .0,
+      at-put-space .put-space .ensures .ends,
+      at-put-space .put-space .kept .0,
+      signed-width (toZ w64 (ofZ w64 (start .args .cost))),
+      at-put-signed .put-signed .ensures .ends,
+      at-put-signed .put-signed .kept .0,
+      start .pre,
+    )
 
 returns : tie.Need-returns
 returns c =
+    let at-put-signed = c .before .before .before .before .before .before in
+    let at-put-space = at-put-signed .before .before .before .before in
+    let at-put-bytes = at-put-space .before .before .before .before in
     let z = c .before .before .before .before .before .before .before .before .before .before .before .before .before .before .before .before .before .before in
     let v = z .args in
-    let p1 = page-more (page-start (v .out .now) (v .at) (omega (arith, z .pre))) 4 (omega arith) (omega (arith, z .pre)) (c .before .before .before .before .before .before .before .before .before .before .before .before .before .before .put-bytes .ensures) in
-    let p2 = page-more p1 1 (omega arith) (omega (arith, z .pre)) (c .before .before .before .before .before .before .before .before .before .before .put-space .ensures) in
-    let p3 = page-more p2 21 (signed-width (toZ w64 (ofZ w64 (v .cost)))) (omega (arith, z .pre)) (c .before .before .before .before .before .before .put-signed .ensures) in
+    let p1 = page-more (page-start (v .out .now) (v .at) (omega (arith, z .pre))) 4 (omega arith) (omega (arith, z .pre)) (at-put-bytes .put-bytes .ensures) in
+    let p2 = page-more p1 1 (omega arith) (omega (arith, z .pre)) (at-put-space .put-space .ensures) in
+    let p3 = page-more p2 21 (signed-width (toZ w64 (ofZ w64 (v .cost)))) (omega (arith, z .pre)) (at-put-signed .put-signed .ensures) in
     rw (toZ-ofZ w64 (v .cost) (z .fits .cost)) at (page-more p3 1 (omega arith) (omega (arith, z .pre)) (c .before .before .put-newline .ensures) .printed)
 
 pub print-cost-spec : {M : Type 1} → statement M

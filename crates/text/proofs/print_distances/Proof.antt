@@ -25,7 +25,11 @@ loop-holds c =
     listing-start (eachIndex (present (v .bound) (v .marks .now)) (distanceLine (v .dist .now))) refl (c .before .before .pre .2)
 
 print-distance-requires : tie.Need-print-distance-requires Inv-loop μ-loop
-print-distance-requires c κs = (listing-room (c .before .before .before .before .loop .inv) (c .before .before .before .loop-test .taken), omega (arith, c .before .before .before .before .before .before .before .pre, c .before .before .before .loop-test .taken))
+print-distance-requires c κs =
+    let at-loop-test = c .before .before .before in
+    let at-loop = at-loop-test .before in
+    let start = at-loop .before .before .before in
+    (listing-room (at-loop .loop .inv) (at-loop-test .loop-test .taken), omega (arith, start .pre, at-loop-test .loop-test .taken))
 
 loop-less : tie.Need-loop-less Inv-loop μ-loop
 loop-less c = omega (arith, c .before .before .loop-test .taken)

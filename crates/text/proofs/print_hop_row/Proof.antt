@@ -18,28 +18,66 @@ put-bytes-requires : tie.Need-put-bytes-requires
 put-bytes-requires c κs = omega (arith, c .before .before .before .before .pre)
 
 put-number-requires : tie.Need-put-number-requires
-put-number-requires c κs = omega (arith, c .before .before .before .put-bytes .ensures .ends, c .before .before .before .put-bytes .kept .0, c .before .before .before .before .before .before .before .before .pre)
+put-number-requires c κs =
+    let at-put-bytes = c .before .before .before in
+    let start = at-put-bytes .before .before .before .before .before in
+    omega (arith, at-put-bytes .put-bytes .ensures .ends, at-put-bytes .put-bytes .kept .0, start .pre)
 
 mul-put-indices : tie.Need-mul-put-indices
-mul-put-indices c = omega (arith, c .before .before .before .before .before .before .before .before .before .before .before .before .pre .0, c .before .before .before .before .before .before .before .before .before .before .before .before .good .1 .0)
+mul-put-indices c =
+    let start = c .before .before .before .before .before .before .before .before .before .before .before .before in
+    omega (arith, start .pre .0, start .good .1 .0)
 
 put-indices-requires : tie.Need-put-indices-requires
-put-indices-requires c κs = (c .before .before .before .before .before .before .before .before .before .before .before .before .pre .0, omega (arith, c .before .before .before .before .before .before .before .put-bytes .ensures .ends, c .before .before .before .before .before .before .before .put-bytes .kept .0, c .before .before .before .put-number .ensures .ends, c .before .before .before .put-number .kept .0, decimal-text-length (c .before .before .before .before .before .before .before .before .before .before .before .before .args .i), c .before .before .before .before .before .before .before .before .before .before .before .before .pre .1))
+put-indices-requires c κs =
+    let at-put-number = c .before .before .before in
+    let at-put-bytes = at-put-number .before .before .before .before in
+    let start = at-put-bytes .before .before .before .before .before in (
+      start .pre .0,
+      omega (
+        arith,
+        at-put-bytes .put-bytes .ensures .ends,
+        at-put-bytes .put-bytes .kept .0,
+        at-put-number .put-number .ensures .ends,
+        at-put-number .put-number .kept .0,
+        decimal-text-length (start .args .i),
+        start .pre .1,
+      ),
+    )
 
 put-newline-requires : tie.Need-put-newline-requires
 put-newline-requires c κs =
-    let v = c .before .before .before .before .before .before .before .before .before .before .before .before .before .before .before .before .args in
-    omega (arith, c .before .before .before .before .before .before .before .before .before .before .before .put-bytes .ensures .ends, c .before .before .before .before .before .before .before .before .before .before .before .put-bytes .kept .0, c .before .before .before .before .before .before .before .put-number .ensures .ends, c .before .before .before .before .before .before .before .put-number .kept .0, decimal-text-length (v .i), c .before .before .before .put-indices .ensures .ends, c .before .before .before .put-indices .kept .0, entries-width indexText 20 index-width (v .p) (drop (v .r * v .p) (v .matrix .now)), c .before .before .before .before .before .before .before .before .before .before .before .before .before .before .before .before .pre .1)
+    let at-put-indices = c .before .before .before in
+    let at-put-number = at-put-indices .before .before .before .before in
+    let at-put-bytes = at-put-number .before .before .before .before in
+    let start = at-put-bytes .before .before .before .before .before in
+    let v = start .args in
+    omega (
+      arith,
+      at-put-bytes .put-bytes .ensures .ends,
+      at-put-bytes .put-bytes .kept .0,
+      at-put-number .put-number .ensures .ends,
+      at-put-number .put-number .kept .0,
+      decimal-text-length (v .i),
+      at-put-indices .put-indices .ensures .ends,
+      at-put-indices .put-indices .kept .0,
+      entries-width indexText 20 index-width (v .p) (drop (v .r * v .p) (v .matrix .now)),
+      start .pre .1,
+    )
 
 returns : tie.Need-returns
 returns c =
+    let at-put-indices = c .before .before .before .before .before .before in
+    let at-put-number = at-put-indices .before .before .before .before in
+    let at-put-bytes = at-put-number .before .before .before .before in
     let z = c .before .before .before .before .before .before .before .before .before .before .before .before .before .before .before .before .before .before .before in
     let v = z .args in
     let w = entries-width indexText 20 index-width (v .p) (drop (v .r * v .p) (v .matrix .now)) in
-    let p1 = page-more (page-start (v .out .now) (v .at) (omega (arith, z .pre .1))) 3 (omega arith) (omega (arith, z .pre .1)) (c .before .before .before .before .before .before .before .before .before .before .before .before .before .before .put-bytes .ensures) in
-    let p2 = page-more p1 21 (omega (arith, decimal-text-length (v .i))) (omega (arith, z .pre .1)) (c .before .before .before .before .before .before .before .before .before .before .put-number .ensures) in
-    let p3 = page-more p2 (v .p * 21) (omega (arith, w)) (omega (arith, z .pre .1)) (c .before .before .before .before .before .before .put-indices .ensures) in
-    rw (fields-split (rowText ++ field (decimalText (v .i))) (map indexText (take (v .p) (drop (v .r * v .p) (v .matrix .now))))) (page-more p3 1 (omega arith) (omega (arith, z .pre .1)) (c .before .before .put-newline .ensures) .printed)
+    let p1 = page-more (page-start (v .out .now) (v .at) (omega (arith, z .pre .1))) 3 (omega arith) (omega (arith, z .pre .1)) (at-put-bytes .put-bytes .ensures) in
+    let p2 = page-more p1 21 (omega (arith, decimal-text-length (v .i))) (omega (arith, z .pre .1)) (at-put-number .put-number .ensures) in
+    let p3 = page-more p2 (v .p * 21) (omega (arith, w)) (omega (arith, z .pre .1)) (at-put-indices .put-indices .ensures) in
+    rw (fields-split (rowText ++ field (decimalText (v .i))) (map indexText (take (v .p) (drop (v .r * v .p) (v .matrix .now)))))
+    (page-more p3 1 (omega arith) (omega (arith, z .pre .1)) (c .before .before .put-newline .ensures) .printed)
 
 pub print-hop-row-spec : {M : Type 1} → statement M
 print-hop-row-spec =

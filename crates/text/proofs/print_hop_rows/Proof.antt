@@ -29,9 +29,13 @@ loop-holds c =
 
 print-hop-row-requires : tie.Need-print-hop-row-requires Inv-loop μ-loop
 print-hop-row-requires c κs =
+    let at-loop-test = c .before .before .before in
+    let at-loop = at-loop-test .before in
+    let at-count-present = at-loop .before in
     let z = c .before .before .before .before .before .before .before .before .before in
     let v = z .args in
-    rowing-room indexText 20 index-width (present (v .bound) (v .marks .now)) (v .bound) (v .matrix .now) (c .before .before .before .before .loop .inv) (c .before .before .before .loop-test .taken) (c .before .before .before .before .before .count-present .ensures) (sym (c .before .before .has-index .ensures) ∙ c .before .if1 .taken) (z .pre .1)
+    rowing-room indexText 20 index-width (present (v .bound) (v .marks .now)) (v .bound) (v .matrix .now) (at-loop .loop .inv) (at-loop-test .loop-test .taken)
+    (at-count-present .count-present .ensures) (sym (c .before .before .has-index .ensures) ∙ c .before .if1 .taken) (z .pre .1)
 
 add-r : tie.Need-add-r Inv-loop μ-loop
 add-r c =

@@ -17,20 +17,36 @@ put-bytes-requires : tie.Need-put-bytes-requires
 put-bytes-requires c κs = omega (arith, c .before .before .before .before .pre)
 
 put-indices-requires : tie.Need-put-indices-requires
-put-indices-requires c κs = (omega (arith, c .before .before .before .before .before .before .before .before .pre), omega (arith, c .before .before .before .put-bytes .ensures .ends, c .before .before .before .put-bytes .kept .0, c .before .before .before .before .before .before .before .before .pre))
+put-indices-requires c κs =
+    let at-put-bytes = c .before .before .before in
+    let start = at-put-bytes .before .before .before .before .before in
+    (omega (arith, start .pre), omega (arith, at-put-bytes .put-bytes .ensures .ends, at-put-bytes .put-bytes .kept .0, start .pre))
 
 put-newline-requires : tie.Need-put-newline-requires
 put-newline-requires c κs =
-    let v = c .before .before .before .before .before .before .before .before .before .before .before .before .args in
-    omega (arith, c .before .before .before .before .before .before .before .put-bytes .ensures .ends, c .before .before .before .before .before .before .before .put-bytes .kept .0, c .before .before .before .put-indices .ensures .ends, c .before .before .before .put-indices .kept .0, entries-width indexText 20 index-width (v .n) (v .path .now), c .before .before .before .before .before .before .before .before .before .before .before .before .pre)
+    let at-put-indices = c .before .before .before in
+    let at-put-bytes = at-put-indices .before .before .before .before in
+    let start = at-put-bytes .before .before .before .before .before in
+    let v = start .args in
+    omega (
+      arith,
+      at-put-bytes .put-bytes .ensures .ends,
+      at-put-bytes .put-bytes .kept .0,
+      at-put-indices .put-indices .ensures .ends,
+      at-put-indices .put-indices .kept .0,
+      entries-width indexText 20 index-width (v .n) (v .path .now),
+      start .pre,
+    )
 
 returns : tie.Need-returns
 returns c =
+    let at-put-indices = c .before .before .before .before .before .before in
+    let at-put-bytes = at-put-indices .before .before .before .before in
     let z = c .before .before .before .before .before .before .before .before .before .before .before .before .before .before .before in
     let v = z .args in
     let w = entries-width indexText 20 index-width (v .n) (v .path .now) in
-    let p1 = page-more (page-start (v .out .now) (v .at) (omega (arith, z .pre))) 4 (omega arith) (omega (arith, z .pre)) (c .before .before .before .before .before .before .before .before .before .before .put-bytes .ensures) in
-    let p2 = page-more p1 (v .n * 21) (omega (arith, w)) (omega (arith, z .pre)) (c .before .before .before .before .before .before .put-indices .ensures) in
+    let p1 = page-more (page-start (v .out .now) (v .at) (omega (arith, z .pre))) 4 (omega arith) (omega (arith, z .pre)) (at-put-bytes .put-bytes .ensures) in
+    let p2 = page-more p1 (v .n * 21) (omega (arith, w)) (omega (arith, z .pre)) (at-put-indices .put-indices .ensures) in
     rw (fields-split pathText (map indexText (take (v .n) (v .path .now)))) (page-more p2 1 (omega arith) (omega (arith, z .pre)) (c .before .before .put-newline .ensures) .printed)
 
 pub print-nodes-spec : {M : Type 1} → statement M

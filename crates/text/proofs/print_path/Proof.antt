@@ -17,9 +17,12 @@ use Rattle.text.proofs.Widths.{cost-line-width}
 
 returns : tie.Need-returns
 returns c =
+    let at-if1 = c .before .before .before .before .before in
+    let at-lower = at-if1 .before in
     let z = c .before .before .before .before .before .before .before .before .before in
     let v = z .args in
-    rw (path-none (v .cost) (v .n) (v .path .now) (ap (ltZ noneI64) (sym (toZ-ofZ w64 (v .cost) (z .fits .cost))) ∙ sym (c .before .before .before .before .before .before .lower .ensures) ∙ not-t _ (c .before .before .before .before .before .if1 .taken))) (c .before .before .print-word .ensures)
+    rw (path-none (v .cost) (v .n) (v .path .now) (ap (ltZ noneI64) (sym (toZ-ofZ w64 (v .cost) (z .fits .cost))) ∙ sym (at-lower .lower .ensures) ∙ not-t _ (at-if1 .if1 .taken)))
+    (c .before .before .print-word .ensures)
 
 print-nodes-requires : tie.Need-print-nodes-requires
 print-nodes-requires c κs =
@@ -28,12 +31,15 @@ print-nodes-requires c κs =
 
 returns-2 : tie.Need-returns-2
 returns-2 c =
+    let at-print-cost = c .before .before .before .before .before .before in
+    let at-if1 = at-print-cost .before .before in
+    let at-lower = at-if1 .before in
     let z = c .before .before .before .before .before .before .before .before .before .before .before .before in
     let v = z .args in
     let e = toZ-ofZ w64 (v .cost) (z .fits .cost) in
     let w = cost-line-width (v .cost) in
-    rw (path-some (v .cost) (v .n) (v .path .now) (ap (ltZ noneI64) (sym e) ∙ sym (c .before .before .before .before .before .before .before .before .before .lower .ensures) ∙ not-f _ (c .before .before .before .before .before .before .before .before .if1 .left)))
-    (printed-more (v .out .now) (v .at) _ (omega (arith, w, z .pre .1)) _ _ _ _ _ (rw e at (c .before .before .before .before .before .before .print-cost .ensures)) (c .before .before .print-nodes .ensures))
+    rw (path-some (v .cost) (v .n) (v .path .now) (ap (ltZ noneI64) (sym e) ∙ sym (at-lower .lower .ensures) ∙ not-f _ (at-if1 .if1 .left)))
+    (printed-more (v .out .now) (v .at) _ (omega (arith, w, z .pre .1)) _ _ _ _ _ (rw e at (at-print-cost .print-cost .ensures)) (c .before .before .print-nodes .ensures))
 
 pub print-path-spec : {M : Type 1} → statement M
 print-path-spec =

@@ -19,23 +19,52 @@ put-bits-requires c κs =
 
 put-index-requires : tie.Need-put-index-requires
 put-index-requires c κs =
+    let at-put-bits = c .before .before .before .before in
+    let at-put-decimal = at-put-bits .before .before .before .before in
     let z = c .before .before .before .before .before .before .before .before .before .before .before .before .before in
     let v = z .args in
-    omega (arith, decimal-text-length (v .i), c .before .before .before .before .before .before .before .before .put-decimal .ensures .ends, c .before .before .before .before .before .before .before .before .put-decimal .kept .0, bits-width (getD (v .dist .now) (v .i) 0), c .before .before .before .before .put-bits .ensures .ends, c .before .before .before .before .put-bits .kept .0, z .pre .0)
+    omega (
+      arith,
+      decimal-text-length (v .i),
+      at-put-decimal .put-decimal .ensures .ends,
+      at-put-decimal .put-decimal .kept .0,
+      bits-width (getD (v .dist .now) (v .i) 0),
+      at-put-bits .put-bits .ensures .ends,
+      at-put-bits .put-bits .kept .0,
+      z .pre .0,
+    )
 
 put-newline-requires : tie.Need-put-newline-requires
 put-newline-requires c κs =
+    let at-put-index = c .before .before .before in
+    let at-put-bits = at-put-index .before .before .before .before .before in
+    let at-put-decimal = at-put-bits .before .before .before .before in
     let z = c .before .before .before .before .before .before .before .before .before .before .before .before .before .before .before .before .before in
     let v = z .args in
-    omega (arith, decimal-text-length (v .i), c .before .before .before .before .before .before .before .before .before .before .before .before .put-decimal .ensures .ends, c .before .before .before .before .before .before .before .before .before .before .before .before .put-decimal .kept .0, bits-width (getD (v .dist .now) (v .i) 0), c .before .before .before .before .before .before .before .before .put-bits .ensures .ends, c .before .before .before .before .before .before .before .before .put-bits .kept .0, index-width (getD (v .preds .now) (v .i) 0), c .before .before .before .put-index .ensures .ends, c .before .before .before .put-index .kept .0, z .pre .0)
+    omega (
+      arith,
+      decimal-text-length (v .i),
+      at-put-decimal .put-decimal .ensures .ends,
+      at-put-decimal .put-decimal .kept .0,
+      bits-width (getD (v .dist .now) (v .i) 0),
+      at-put-bits .put-bits .ensures .ends,
+      at-put-bits .put-bits .kept .0,
+      index-width (getD (v .preds .now) (v .i) 0),
+      at-put-index .put-index .ensures .ends,
+      at-put-index .put-index .kept .0,
+      z .pre .0,
+    )
 
 returns : tie.Need-returns
 returns c =
+    let at-put-index = c .before .before .before .before .before .before in
+    let at-put-bits = at-put-index .before .before .before .before .before in
+    let at-put-decimal = at-put-bits .before .before .before .before in
     let z = c .before .before .before .before .before .before .before .before .before .before .before .before .before .before .before .before .before .before .before .before in
     let v = z .args in
-    let p1 = page-more (page-start (v .out .now) (v .at) (omega (arith, z .pre .0))) 20 (decimal-text-length (v .i)) (omega (arith, z .pre .0)) (c .before .before .before .before .before .before .before .before .before .before .before .before .before .before .before .put-decimal .ensures) in
-    let p2 = page-more p1 17 (omega (arith, bits-width (getD (v .dist .now) (v .i) 0))) (omega (arith, z .pre .0)) (c .before .before .before .before .before .before .before .before .before .before .before .put-bits .ensures) in
-    let p3 = page-more p2 21 (omega (arith, index-width (getD (v .preds .now) (v .i) 0))) (omega (arith, z .pre .0)) (c .before .before .before .before .before .before .put-index .ensures) in
+    let p1 = page-more (page-start (v .out .now) (v .at) (omega (arith, z .pre .0))) 20 (decimal-text-length (v .i)) (omega (arith, z .pre .0)) (at-put-decimal .put-decimal .ensures) in
+    let p2 = page-more p1 17 (omega (arith, bits-width (getD (v .dist .now) (v .i) 0))) (omega (arith, z .pre .0)) (at-put-bits .put-bits .ensures) in
+    let p3 = page-more p2 21 (omega (arith, index-width (getD (v .preds .now) (v .i) 0))) (omega (arith, z .pre .0)) (at-put-index .put-index .ensures) in
     page-more p3 1 (omega arith) (omega (arith, z .pre .0)) (c .before .before .put-newline .ensures) .printed
 
 pub print-reached-spec : {M : Type 1} → statement M

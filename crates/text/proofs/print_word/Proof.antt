@@ -11,13 +11,17 @@ put-bytes-requires : tie.Need-put-bytes-requires
 put-bytes-requires c κs = omega (arith, c .before .before .before .pre)
 
 put-newline-requires : tie.Need-put-newline-requires
-put-newline-requires c κs = omega (arith, c .before .before .before .put-bytes .ensures .ends, c .before .before .before .put-bytes .kept .0, c .before .before .before .before .before .before .before .pre)
+put-newline-requires c κs =
+    let at-put-bytes = c .before .before .before in
+    let start = at-put-bytes .before .before .before .before in
+    omega (arith, at-put-bytes .put-bytes .ensures .ends, at-put-bytes .put-bytes .kept .0, start .pre)
 
 returns : tie.Need-returns
 returns c =
+    let at-put-bytes = c .before .before .before .before .before .before in
     let z = c .before .before .before .before .before .before .before .before .before .before in
     let v = z .args in
-    let p1 = page-more (page-start (v .out .now) (v .at) (omega (arith, z .pre))) (length (v .word .now)) (omega arith) (omega (arith, z .pre)) (c .before .before .before .before .before .before .put-bytes .ensures) in
+    let p1 = page-more (page-start (v .out .now) (v .at) (omega (arith, z .pre))) (length (v .word .now)) (omega arith) (omega (arith, z .pre)) (at-put-bytes .put-bytes .ensures) in
     page-more p1 1 (omega arith) (omega (arith, z .pre)) (c .before .before .put-newline .ensures) .printed
 
 pub print-word-spec : {M : Type 1} → statement M

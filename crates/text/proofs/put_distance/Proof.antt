@@ -17,24 +17,41 @@ use Rattle.text.proofs.Widths.{signed-width}
 use Rattle.text.proofs.Fields.{spaced, distance-some, distance-none}
 
 put-signed-requires : tie.Need-put-signed-requires
-put-signed-requires c κs = omega (arith, c .before .before .before .before .before .put-space .ensures .ends, c .before .before .before .before .before .put-space .kept .0, signed-width (toZ w64 (ofZ w64 (getD (c .before .before .before .before .before .before .before .before .before .args .dist .now) (c .before .before .before .before .before .before .before .before .before .args .i) (pos 0)))), c .before .before .before .before .before .before .before .before .before .pre)
+put-signed-requires c κs =
+    let at-put-space = c .before .before .before .before .before in
+    let start = at-put-space .before .before .before .before in
+    omega (arith, at-put-space .put-space .ensures .ends, at-put-space .put-space .kept .0, signed-width (toZ w64 (ofZ w64 (getD (start .args .dist .now) (start .args .i) (pos 0)))), start .pre)
 
 returns : tie.Need-returns
 returns c =
+    let at-if1 = c .before .before .before .before in
+    let at-lower = at-if1 .before in
+    let at-put-space = at-lower .before .before .before in
+    let at-d = at-put-space .before .before in
     let z = c .before .before .before .before .before .before .before .before .before .before .before .before in
     let v = z .args in
-    let e = read-at (v .dist .now) (v .i) (c .before .before .before .before .before .before .before .before .before .before .d .given) in
-    spaced (omega (arith, z .pre)) (c .before .before .before .before .before .before .before .before .put-space .ensures) (distance-some (getD (v .dist .now) (v .i) (pos 0)) (ap (ltZ noneI64) (sym e) ∙ sym (c .before .before .before .before .before .lower .ensures) ∙ c .before .before .before .before .if1 .taken) ∙ ap signedText (sym e)) (c .before .before .put-signed .ensures)
+    let e = read-at (v .dist .now) (v .i) (at-d .d .given) in
+    spaced (omega (arith, z .pre)) (at-put-space .put-space .ensures)
+    (distance-some (getD (v .dist .now) (v .i) (pos 0)) (ap (ltZ noneI64) (sym e) ∙ sym (at-lower .lower .ensures) ∙ at-if1 .if1 .taken) ∙ ap signedText (sym e))
+    (c .before .before .put-signed .ensures)
 
 put-bytes-requires : tie.Need-put-bytes-requires
-put-bytes-requires c κs = omega (arith, c .before .before .before .before .before .before .put-space .ensures .ends, c .before .before .before .before .before .before .put-space .kept .0, c .before .before .before .before .before .before .before .before .before .before .pre)
+put-bytes-requires c κs =
+    let at-put-space = c .before .before .before .before .before .before in
+    let start = at-put-space .before .before .before .before in
+    omega (arith, at-put-space .put-space .ensures .ends, at-put-space .put-space .kept .0, start .pre)
 
 returns-2 : tie.Need-returns-2
 returns-2 c =
+    let at-if1 = c .before .before .before .before .before in
+    let at-lower = at-if1 .before in
+    let at-put-space = at-lower .before .before .before in
+    let at-d = at-put-space .before .before in
     let z = c .before .before .before .before .before .before .before .before .before .before .before .before .before in
     let v = z .args in
-    let e = read-at (v .dist .now) (v .i) (c .before .before .before .before .before .before .before .before .before .before .before .d .given) in
-    spaced (omega (arith, z .pre)) (c .before .before .before .before .before .before .before .before .before .put-space .ensures) (distance-none (getD (v .dist .now) (v .i) (pos 0)) (ap (ltZ noneI64) (sym e) ∙ sym (c .before .before .before .before .before .before .lower .ensures) ∙ c .before .before .before .before .before .if1 .left)) (c .before .before .put-bytes .ensures)
+    let e = read-at (v .dist .now) (v .i) (at-d .d .given) in
+    spaced (omega (arith, z .pre)) (at-put-space .put-space .ensures)
+    (distance-none (getD (v .dist .now) (v .i) (pos 0)) (ap (ltZ noneI64) (sym e) ∙ sym (at-lower .lower .ensures) ∙ at-if1 .if1 .left)) (c .before .before .put-bytes .ensures)
 
 pub put-distance-spec : {M : Type 1} → statement M
 put-distance-spec =

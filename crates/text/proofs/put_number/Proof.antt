@@ -9,10 +9,16 @@ use Rattle.lines.proofs.Digits.{decimal-text-length}
 use Rattle.text.proofs.Fields.{spaced}
 
 put-decimal-requires : tie.Need-put-decimal-requires
-put-decimal-requires c κs = omega (arith, c .before .before .before .put-space .ensures .ends, c .before .before .before .put-space .kept .0, decimal-text-length (c .before .before .before .before .before .before .args .n), c .before .before .before .before .before .before .pre)
+put-decimal-requires c κs =
+    let at-put-space = c .before .before .before in
+    let start = at-put-space .before .before .before in
+    omega (arith, at-put-space .put-space .ensures .ends, at-put-space .put-space .kept .0, decimal-text-length (start .args .n), start .pre)
 
 returns : tie.Need-returns
-returns c = spaced (omega (arith, c .before .before .before .before .before .before .before .before .before .pre)) (c .before .before .before .before .before .before .put-space .ensures) refl (c .before .before .put-decimal .ensures)
+returns c =
+    let at-put-space = c .before .before .before .before .before .before in
+    let start = at-put-space .before .before .before in
+    spaced (omega (arith, start .pre)) (at-put-space .put-space .ensures) refl (c .before .before .put-decimal .ensures)
 
 pub put-number-spec : {M : Type 1} → statement M
 put-number-spec = tie.close

@@ -63,15 +63,19 @@ first-of-group-requires-3 c κs =
     let s = c .before .before .before .before .before .before in
     let S = s .pre .0 in
     let some : 0 < c .before .before .before .largest .result = rw (c .before .before .before .largest .ensures) (s .pre .1) in
-    let C = c .first-of-group2 .ensures in
-    ((omega arith, S .few, omega (arith, S .few, C .from, C .to)), (low-right _ _ S _ (c .before .before .before .largest .ensures) _ (c .before .before .first-top .ensures) _ (c .before .first-of-group .ensures) _ C, some))
+    let C = c .first-of-group2 .ensures in (
+      (omega arith, S .few, omega (arith, S .few, C .from, C .to)),
+      (low-right _ _ S _ (c .before .before .before .largest .ensures) _ (c .before .before .first-top .ensures) _ (c .before .first-of-group .ensures) _ C, some),
+    )
 
 returns : tie.Need-returns
 returns c =
+    let at-first-top = c .before .before .before in
+    let at-largest = at-first-top .before in
     let s = c .before .before .before .before .before .before .before in
     let S = s .pre .0 in
-    let e = c .before .before .before .before .largest .ensures in
-    rw (sym e) (first-all _ _ S _ e _ (c .before .before .before .first-top .ensures) _ (c .before .before .first-of-group .ensures) _ (c .before .first-of-group2 .ensures) _ (c .first-of-group3 .ensures))
+    let e = at-largest .largest .ensures in
+    rw (sym e) (first-all _ _ S _ e _ (at-first-top .first-top .ensures) _ (c .before .before .first-of-group .ensures) _ (c .before .first-of-group2 .ensures) _ (c .first-of-group3 .ensures))
 
 pub first-spec : {M : Type 1} → statement M
 first-spec =

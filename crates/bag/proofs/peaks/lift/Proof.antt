@@ -17,17 +17,17 @@ slice-read-larger c = search needs
 larger-requires : tie.Need-larger-requires
 larger-requires c κs = search needs
 
-mul-heap : tie.Need-mul-heap
-mul-heap c = search needs
+mul-peaks : tie.Need-mul-peaks
+mul-peaks c = search needs
 
-slice-write-heap : tie.Need-slice-write-heap
-slice-write-heap c = search needs
+slice-write-peaks : tie.Need-slice-write-peaks
+slice-write-peaks c = search needs
 
 same-length : tie.Need-same-length
 same-length c = search needs
 
 returns : tie.Need-returns
-returns c = ap (set (c .before .before .before .args .heap .now) (c .before .before .before .args .i)) (c .larger .ensures)
+returns c = ap (set (c .before .before .before .args .peaks .now) (c .before .before .before .args .i)) (c .larger .ensures)
 
 pub lift-spec : {M : Type 1} → statement M
 lift-spec =
@@ -36,7 +36,7 @@ lift-spec =
     mul-larger
     slice-read-larger
     larger-requires
-    mul-heap
-    slice-write-heap
+    mul-peaks
+    slice-write-peaks
     same-length
     returns)

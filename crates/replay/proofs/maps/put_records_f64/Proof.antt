@@ -7,7 +7,8 @@ use Rattle.replay.proofs.maps.put_records_f64.Statement.{statement}
 use Rattle.replay.proofs.maps.put_records_f64.Tie as tie
 
 abbrev Inv-loop : tie.InvT-loop
-Inv-loop marks from₀ to₀ bits₀ opens₀ list at left₀ read₀ from to bits opens left read = (length from ≡ length from₀) × (length to ≡ length to₀) × (length bits ≡ length bits₀) × (length opens ≡ length opens₀)
+Inv-loop marks from₀ to₀ bits₀ opens₀ list at left₀ read₀ from to bits opens left read =
+    (length from ≡ length from₀) × (length to ≡ length to₀) × (length bits ≡ length bits₀) × (length opens ≡ length opens₀)
 
 abbrev μ-loop : tie.MeasureT-loop
 μ-loop marks from₀ to₀ bits₀ opens₀ list at left₀ read₀ from to bits opens left read = left
