@@ -5,7 +5,7 @@
 # make compare: the proved functions against the original and slow plain models (oracle/README.md says what it needs).
 # make bench: speed beside the original and other libraries; writes docs/BENCH.md and docs/bench.svg.
 # make weaker: tries every listed weakening of a tool of tools/ on its unit tests, in some minutes; no part of the gate.
-# make wrong: tries every wrong answer and wrong definition of tests/wrong on the prover, in some ten minutes on two cores; no part of the gate.
+# make wrong: tries every wrong answer and wrong definition of tests/wrong on the prover; no part of the gate.
 .PHONY: run test quick audit test-tools differ weaker cases wrong test-doors test-c test-rust compare bench
 
 run:
