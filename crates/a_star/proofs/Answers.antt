@@ -48,11 +48,12 @@ use Rattle.turns.proofs.Firsts.{memory-enough}
 use Rattle.search.specs.Runs.{Ran}
 use Rattle.search.proofs.Runs.{shown-pred}
 use Rattle.search.proofs.Lists.{wiped-memory}
-use Rattle.a_star.specs.Promise.{Question, questionOf, Answer, answerOf, without, Scratch, Buffers, fairGuess, Fine, atFront, wipedAll, searchOf, Says, unreached, reached, Outcome}
+use Rattle.a_star.specs.Promise.{Question, questionOf, Answer, answerOf, Scratch, Buffers, fairGuess, Fine, atFront, wipedAll, searchOf, Says, unreached, reached, resultOf, Outcome}
 use Rattle.a_star.specs.Trail.{GoesBack}
-use Rattle.a_star.specs.Parts.{EnoughScratch, CanSeek, Ripe, Sought, given, Told, pathBack, Read, refused, nowhere, found}
+use Rattle.a_star.specs.Parts.{EnoughScratch, CanSeek, Ripe, Sought, without, given, Told, pathBack, Read, refused, nowhere, found, Solved}
 use Rattle.a_star.proofs.Path.{chain-back, chain-trail}
 use Rattle.a_star.proofs.Refusals.{fair-of, fair-where, fine-whole, fine-long}
+use Rattle.a_star.proofs.Literal.{literal-exactly}
 
 -- ---- the search that was asked for
 key-is : (h : List ℤ) → keyOf h ≡ (λ d v. d ⊕ getD h v (pos 0))
@@ -234,28 +235,28 @@ module _ (g : Net ℤ) (q : Question) {b : Buffers} (w : Fine g q b) {x : End �
         go (some d) e = back-in-time d e (answered q ends .chain z d e)
 
     -- a target with a distance
-    pub says-found : {r : Answer} {l : List ℕ} → x .number ≡ 0 → given (M .dist) (q .target) ≡ true → r ≡ answerOf 0 (getD (M .dist) (q .target) noneI64) (length l)
-        → l ≡ pathBack m (M .preds) (q .source) (q .target) → Says (ArcOf g) q x r l
-    says-found {r} {l} z y a p = go (x .dist (q .target)) refl
+    pub says-found : x .number ≡ 0 → given (M .dist) (q .target) ≡ true
+        → Says (ArcOf g) q x (getD (M .dist) (q .target) noneI64) (pathBack m (M .preds) (q .source) (q .target))
+    says-found z y = go (x .dist (q .target)) refl
       where
-        go : (o : Option ℤ) → x .dist (q .target) ≡ o → Says (ArcOf g) q x r l
+        go : (o : Option ℤ) → x .dist (q .target) ≡ o → Says (ArcOf g) q x (getD (M .dist) (q .target) noneI64) (pathBack m (M .preds) (q .source) (q .target))
         go none e = absurd (clash y (given-none (M .dist) (q .target) (dist-is ∙ ap (shown noneI64) e)))
         go (some d) e =
             let c = answered q ends .chain z d e in
             let k : getD (M .dist) (q .target) noneI64 ≡ d = dist-is ∙ ap (shown noneI64) e in
-            reached d e c (a ∙ (λ i. answerOf (sym z i) (k i) (length l))) (p ∙ path-is d e c)
+            reached (e ∙ ap some (sym k)) c (path-is d e c)
 
     -- and one without
-    pub says-nowhere : {r : Answer} → x .number ≡ 0 → given (M .dist) (q .target) ≡ false → r ≡ without 0 → Says (ArcOf g) q x r []
-    says-nowhere {r} z y a = go (x .dist (q .target)) refl
+    pub says-nowhere : given (M .dist) (q .target) ≡ false → Says (ArcOf g) q x noneI64 []
+    says-nowhere y = go (x .dist (q .target)) refl
       where
-        go : (o : Option ℤ) → x .dist (q .target) ≡ o → Says (ArcOf g) q x r []
-        go none e = unreached e (a ∙ ap without (sym z)) refl
+        go : (o : Option ℤ) → x .dist (q .target) ≡ o → Says (ArcOf g) q x noneI64 []
+        go none e = unreached e refl refl
         go (some d) e = absurd (clash (given-some (M .dist) (q .target) d (dist-is ∙ ap (shown noneI64) e) (got q ends (q .target) d e .up)) y)
 
   -- a search that was refused
-  pub says-bad : {r : Answer} {number : ℕ} → number ≡ x .number → (number ≡ 0 → ⊥) → r ≡ without number → Says (ArcOf g) q x r []
-  says-bad e f a = unreached (ap (λ (y : End ℤ). y .dist (q .target)) (end-refused ends (λ z. f (e ∙ z)) .1)) (a ∙ ap without e) refl
+  pub says-bad : (x .number ≡ 0 → ⊥) → Says (ArcOf g) q x noneI64 []
+  says-bad f = unreached (ap (λ (y : End ℤ). y .dist (q .target)) (end-refused ends f .1)) refl refl
 
 -- no path written
 front-none : (p : List ℕ) → p ≡ atFront [] p
@@ -300,20 +301,35 @@ module _ {m n : ℕ} {d : Bool} {xs ys : List ℕ} {cs : List ℤ} {q : Question
 
     -- the answer read off, and the scratch wiped
     pub outcome : {l : List ℕ} {r : Answer} {a : ℕ} {u : Scratch} → Read number m (q .source) (q .target) (t .memory .dist) (t .memory .preds) (b .path) l r → a ≡ mostArcs d n → u ≡ wipedAll m a t
-        → Outcome (Arc d (links n xs ys cs)) m (mostArcs d n) q b (record { path = l; scratch = u }) r
-    outcome {l} {r} {a} {u} y e f = go y
+        → Solved m n d xs ys cs q b (record { path = l; scratch = u }) r
+    outcome {l} {r} {a} {u} y e f marks = go y
       where
         clean : u ≡ wipedAll m (mostArcs d n) (b .scratch)
         clean = f ∙ (ap (λ (k : ℕ). wipedAll m k t) e ∙ (λ i. record { rows = wiped-rows (pos 0) (z .rows) i; memory = wiped-memory (z .memory) i }))
 
-        made : (p : List ℕ) → Says (Arc d (links n xs ys cs)) q (z .end) r p → l ≡ atFront p (filled m noneU32 (b .path))
-            → Outcome (Arc d (links n xs ys cs)) m (mostArcs d n) q b (record { path = l; scratch = u }) r
-        made p s k = record { end = z .end; ends = z .ends; path = p; says = s; leaves = λ i. record { path = k i; scratch = clean i } }
+        made : (c : ℤ) (p : List ℕ) → Says (Arc d (links n xs ys cs)) q (z .end) c p → r ≡ answerOf number c (length p) → l ≡ atFront p (filled m noneU32 (b .path))
+            → (o : Outcome (netOf m n d marks xs ys cs) q b (resultOf r (record { path = l; scratch = u }))) × (r .number ≡ o .end .number)
+        made c p s i k = (
+          record {
+            end = z .end;
+            ends = literal-exactly h q (z .end) .0 (z .ends);
+            cost = c;
+            path = p;
+            says = s;
+            leaves = λ j. resultOf (i j) (record { path = k j; scratch = clean j });
+          },
+          ap (λ (y : Answer). y .number) i ∙ z .is,
+        )
 
         longP : m ≤ length (t .memory .preds)
         longP = memory-enough (fine-long (w .fine) .memory) (z .memory) .preds
 
-        go : Read number m (q .source) (q .target) (t .memory .dist) (t .memory .preds) (b .path) l r → Outcome (Arc d (links n xs ys cs)) m (mostArcs d n) q b (record { path = l; scratch = u }) r
-        go (refused p i k) = made [] (says-bad h q (w .fine) (z .ends) (z .is) p i) (k ∙ front-none (filled m noneU32 (b .path)))
-        go (nowhere p y i k) = made [] (says-nowhere h q (w .fine) (z .ends) (t .memory) longP (z .shows p) (sym (z .is) ∙ p) y i) (k ∙ front-none (filled m noneU32 (b .path)))
-        go (found p y i k) = made (pathBack m (t .memory .preds) (q .source) (q .target)) (says-found h q (w .fine) (z .ends) (t .memory) longP (z .shows p) (sym (z .is) ∙ p) y i refl) k
+        go : Read number m (q .source) (q .target) (t .memory .dist) (t .memory .preds) (b .path) l r
+            → (o : Outcome (netOf m n d marks xs ys cs) q b (resultOf r (record { path = l; scratch = u }))) × (r .number ≡ o .end .number)
+        go (refused p i k) = made noneI64 [] (says-bad h q (w .fine) (z .ends) (λ y. p (z .is ∙ y))) i (k ∙ front-none (filled m noneU32 (b .path)))
+        go (nowhere p y i k) =
+            made noneI64 [] (says-nowhere h q (w .fine) (z .ends) (t .memory) longP (z .shows p) y) (i ∙ ap without (sym p)) (k ∙ front-none (filled m noneU32 (b .path)))
+        go (found p y i k) =
+            let back = pathBack m (t .memory .preds) (q .source) (q .target) in
+            let cost = getD (t .memory .dist) (q .target) noneI64 in
+            made cost back (says-found h q (w .fine) (z .ends) (t .memory) longP (z .shows p) (sym (z .is) ∙ p) y) (i ∙ (λ j. answerOf (sym p j) cost (length back))) k

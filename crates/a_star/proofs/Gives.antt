@@ -27,14 +27,14 @@ use Rattle.pending.specs.Setting.{End}
 use Rattle.pending.specs.OnePlace.{Cell, out, has as held, distOf, doneAt, begin, Ends, empty, found, wrong, more}
 use Rattle.pending.specs.Reach.{Admissible}
 use Rattle.pending.proofs.Cells.{upd-cases, upd-here, not-out}
-use Rattle.net.specs.Net.{Net, ArcOf, has, width, mostArcsOf}
+use Rattle.net.specs.Net.{Net, ArcOf, has, width}
 use Rattle.net.proofs.Same.{arc-has}
 use Rattle.net.proofs.Cheapest.{net-path-total}
-use Rattle.a_star.specs.Promise.{Question, Answer, answerOf, without, Buffers, Fine, atFront, searchOf, EndsIn, Says, unreached, reached, Outcome, Result, Promise}
+use Rattle.a_star.specs.Promise.{Question, Answer, answerOf, Buffers, Fine, atFront, searchOf, Says, unreached, reached, Result, resultOf, withPath, Outcome, Promise}
 use Rattle.a_star.specs.Given.{pathIn, Modest, Given}
 use Rattle.a_star.proofs.Path.{chain-path, distinct-back, passed-source}
 use Rattle.a_star.proofs.Answers.{answered, got, chain-few, some-zero}
-use Rattle.a_star.proofs.Settles.{Ran, cases, outcome-of}
+use Rattle.a_star.proofs.Settles.{one-place, cases, outcome-of}
 
 -- an index from which a walk leads to one that the map has is one too
 starts-has : (g : Net ℤ) → ((u v : ℕ) (c : ℤ) → ArcOf g u v c → has g u ≡ true) → {u v : ℕ} {t : ℤ} → Walk (ArcOf g) u v t → has g v ≡ true → has g u ≡ true
@@ -47,21 +47,20 @@ unfolding atFront
 front-take l p n e = take-at l (drop (length l) p) n e
 
 -- the path that is given is that of the outcome
-pub path-front : {Arc : ℕ → ℕ → ℤ → Type 0} {m a : ℕ} {q : Question} {b e : Buffers} {r : Answer} {k : ℕ} {d : ℤ} (o : Outcome Arc m a q b e r)
-    → r ≡ answerOf k d (length (o .path)) → pathIn e r ≡ o .path
-path-front {m = m} {b = b} {r = r} o p =
-    ap (λ (x : Buffers). take (r .length) (x .path)) (o .leaves) ∙ front-take (o .path) (filled m noneU32 (b .path)) (r .length) (sym (ap (λ (x : Answer). x .length) p))
+pub path-front : {g : Net ℤ} {q : Question} {b : Buffers} (e : Buffers) (r : Answer) (o : Outcome g q b (resultOf r e)) → pathIn e r ≡ o .path
+path-front {g} {b = b} e r o =
+    ap (λ (y : Result). take (y .length) (y .buffers .path)) (o .leaves) ∙ front-take (o .path) (filled (g .bound) noneU32 (b .path)) (length (o .path)) refl
 
 -- its length is the one given, and no more than p, since it has no index twice
-pub path-few : {g : Net ℤ} {q : Question} {b e : Buffers} {r : Answer} → Fine g q b → (o : Ran g q b e r) → (length (o .path) ≤ width g) × (r .length ≡ length (o .path))
-path-few {g} {q} {r = r} w o = go (o .says)
+pub path-few : {g : Net ℤ} {q : Question} {b : Buffers} {y : Result} → Fine g q b → (o : Outcome g q b y) → (length (o .path) ≤ width g) × (y .length ≡ length (o .path))
+path-few {g} {q} w o = (go (o .says), ap (λ (x : Result). x .length) (o .leaves))
   where
-    go : {l : List ℕ} → Says (ArcOf g) q (o .end) r l → (length l ≤ width g) × (r .length ≡ length l)
-    go (unreached n p i) = (omega (arith, ap length i), omega (arith, ap length i, ap (λ (x : Answer). x .length) p))
-    go (reached d n c p i) = (omega (arith, ap length i, length-reverse (passed c), passed-length c, chain-few g q w (o .ends) d n c), ap (λ (x : Answer). x .length) p)
+    go : {d : ℤ} {l : List ℕ} → Says (ArcOf g) q (o .end) d l → length l ≤ width g
+    go (unreached n p i) = omega (arith, ap length i)
+    go {d} (reached n c i) = omega (arith, ap length i, length-reverse (passed c), passed-length c, chain-few g q w (one-place g q (o .ends)) d n c)
 
 module _ {g : Net ℤ} {q : Question} {b : Buffers} where
-  module _ {e : Buffers} {r : Answer} (w : Fine g q b) (o : Outcome (ArcOf g) (g .bound) (mostArcsOf g) q b e r) where
+  module _ (e : Buffers) (r : Answer) (w : Fine g q b) (o : Outcome g q b (resultOf r e)) where
     -- a modest heuristic is admissible
     admissible : Modest g q → Admissible (ArcOf g) (λ v. getD (q .guess) v (pos 0)) (q .target)
     admissible a = record { at-target = a .at-target; under = λ v t k. a .under v (starts-has g (λ u z c y. arc-has g (w .inside) u z c y .0) k (w .target)) t k }
@@ -70,30 +69,30 @@ module _ {g : Net ℤ} {q : Question} {b : Buffers} where
     gives : 0 < r .length → Given g q r (pathIn e r)
     gives h = go (o .says)
       where
-        go : Says (ArcOf g) q (o .end) r (o .path) → Given g q r (pathIn e r)
-        go (unreached n p i) = absurd (omega (arith, h, ap (λ (x : Answer). x .length) p))
-        go (reached d n c p i) =
-            let z = some-zero (o .ends) n in
-            let is : pathIn e r ≡ reverse (passed c) = path-front o p ∙ i in
+        go : Says (ArcOf g) q (o .end) (o .cost) (o .path) → Given g q r (pathIn e r)
+        go (unreached n p i) = absurd (omega (arith, h, path-few w o .1, ap length i))
+        go (reached n c i) =
+            let z = some-zero (one-place g q (o .ends)) n in
+            let is : pathIn e r ≡ reverse (passed c) = path-front e r o ∙ i in
             let t = net-path-total g (chain-path c) in
             let total : Cheapest (ArcOf g) (passed c) (t .0) = subst (λ (l : List ℕ). Cheapest (ArcOf g) l (t .0)) (reverse-reverse (passed c)) (t .1) in
-            let cost : d ≡ r .cost = sym (ap (λ (x : Answer). x .cost) p) in
-            let y = answered q (o .ends) in
+            let cost : o .cost ≡ r .cost = sym (ap (λ (y : Result). y .cost) (o .leaves)) in
+            let y = answered q (one-place g q (o .ends)) in
             record {
               path = subst (Path (ArcOf g) (q .source) (q .target)) (sym is) (chain-path c);
               distinct = subst NoDup (sym is) (distinct-back (passed c) (chain-distinct c));
-              few = omega (arith, ap length (path-front o p), path-few w o .0);
-              walk = subst (Walk (ArcOf g) (q .source) (q .target)) cost (y .walk z d n);
+              few = omega (arith, ap length (path-front e r o), path-few w o .0);
+              walk = subst (Walk (ArcOf g) (q .source) (q .target)) cost (y .walk z (o .cost) n);
               total = t .0;
               cheapest = subst (λ (l : List ℕ). Cheapest (ArcOf g) (reverse l) (t .0)) (sym is) (t .1);
-              low = subst (λ (x : ℤ). t .0 ≤ℤ x) cost (y .never-above z d n c (t .0) total);
-              least = λ a. subst (Least (ArcOf g) (q .source) (q .target)) cost (y .least z (admissible a) d n);
-              meets = λ a. y .path-total z (admissible a) d n c (t .0) total ∙ cost;
+              low = subst (λ (x : ℤ). t .0 ≤ℤ x) cost (y .never-above z (o .cost) n c (t .0) total);
+              least = λ a. subst (Least (ArcOf g) (q .source) (q .target)) cost (y .least z (admissible a) (o .cost) n);
+              meets = λ a. y .path-total z (admissible a) (o .cost) n c (t .0) total ∙ cost;
             }
 
   -- of every answer with a path
   pub given : {e : Buffers} {r : Answer} → Promise g q b e r → 0 < r .length → Given g q r (pathIn e r)
-  given p h = ⊎-elim (λ x. absurd (omega (arith, h, ap (λ (y : Result). y .length) (x .2)))) (λ x. gives (x .0) (x .1) h) (cases p)
+  given {e} {r} p h = ⊎-elim (λ x. absurd (omega (arith, h, ap (λ (y : Result). y .length) (x .2)))) (λ x. gives e r (x .0) (x .1 .0) h) (cases p)
 
 -- there is such a heuristic: 0 at every index, where no cost is below zero
 pub zero-modest : (g : Net ℤ) (q : Question) → ((v : ℕ) → getD (q .guess) v (pos 0) ≡ pos 0) → ((u v : ℕ) (c : ℤ) → ArcOf g u v c → pos 0 ≤ℤ c) → Modest g q
@@ -110,31 +109,31 @@ Found g q r = (pos 0 ≤ℤ r .cost) × (0 < r .length) × Walk (ArcOf g) (q .so
 
 module _ {g : Net ℤ} {q : Question} {b : Buffers} where
   -- without a refusal: no cost and no path where no walk leads to the target, else both
-  none-or-given : {e : Buffers} {r : Answer} → Promise g q b e r → r .number ≡ 0 → ((r ≡ without 0) × NoWalk g q) ⊎ Found g q r
-  none-or-given {e} {r} promise z = ⊎-elim (λ x. absurd (omega (arith, z, x .0))) (λ x. go (x .1 .ends) (x .1 .says)) (cases promise)
+  none-or-given : {e : Buffers} {r : Answer} → Promise g q b e r → r .number ≡ 0 → ((resultOf r e ≡ withPath g b noneI64 []) × NoWalk g q) ⊎ Found g q r
+  none-or-given {e} {r} promise z = ⊎-elim (λ x. absurd (omega (arith, z, x .0))) (λ x. go (x .1 .0) (sym (x .1 .1) ∙ z) (x .1 .0 .says)) (cases promise)
     where
-      go : {x : End ℤ} {l : List ℕ} → EndsIn (ArcOf g) q x → Says (ArcOf g) q x r l → ((r ≡ without 0) × NoWalk g q) ⊎ Found g q r
-      go ends (unreached n p i) = let y = sym (ap (λ (x : Answer). x .number) p) ∙ z in inl (p ∙ ap without y, answered q ends .unreached y n)
-      go ends (reached d n c p i) =
-          let k = got q ends (q .target) d n in
-          let cost : d ≡ r .cost = sym (ap (λ (x : Answer). x .cost) p) in
-          let some : 0 < r .length = omega (arith, ap (λ (x : Answer). x .length) p, ap length i, length-reverse (passed c), passed-length c) in
+      go : (o : Outcome g q b (resultOf r e)) → o .end .number ≡ 0 → Says (ArcOf g) q (o .end) (o .cost) (o .path) → ((resultOf r e ≡ withPath g b noneI64 []) × NoWalk g q) ⊎ Found g q r
+      go o y (unreached n p i) = inl (o .leaves ∙ (λ j. withPath g b (p j) (i j)), answered q (one-place g q (o .ends)) .unreached y n)
+      go o y (reached n c i) =
+          let k = got q (one-place g q (o .ends)) (q .target) (o .cost) n in
+          let cost : o .cost ≡ r .cost = sym (ap (λ (y : Result). y .cost) (o .leaves)) in
+          let some : 0 < r .length = omega (arith, ap (λ (y : Result). y .length) (o .leaves), ap length i, length-reverse (passed c), passed-length c) in
           inr (subst (λ (x : ℤ). pos 0 ≤ℤ x) cost (k .up), some, subst (Walk (ArcOf g) (q .source) (q .target)) cost (k .walk))
 
   -- so no path exactly without a walk
   pub none-exactly : {e : Buffers} {r : Answer} → Promise g q b e r → r .number ≡ 0 → (r .length ≡ 0) ↔ NoWalk g q
-  none-exactly {r = r} p z = go (none-or-given p z)
+  none-exactly {e} {r} p z = go (none-or-given p z)
     where
-      go : ((r ≡ without 0) × NoWalk g q) ⊎ Found g q r → (r .length ≡ 0) ↔ NoWalk g q
-      go (inl k) = (λ e. k .1, λ f. ap (λ (x : Answer). x .length) (k .0))
+      go : ((resultOf r e ≡ withPath g b noneI64 []) × NoWalk g q) ⊎ Found g q r → (r .length ≡ 0) ↔ NoWalk g q
+      go (inl k) = (λ e. k .1, λ f. ap (λ (y : Result). y .length) (k .0))
       go (inr k) = (λ e. absurd (omega (arith, e, k .1)), λ f. absurd (f (r .cost) (k .2)))
 
   -- and cost none exactly without one
   pub cost-none-exactly : {e : Buffers} {r : Answer} → Promise g q b e r → r .number ≡ 0 → (r .cost ≡ noneI64) ↔ NoWalk g q
-  cost-none-exactly {r = r} p z = go (none-or-given p z)
+  cost-none-exactly {e} {r} p z = go (none-or-given p z)
     where
-      go : ((r ≡ without 0) × NoWalk g q) ⊎ Found g q r → (r .cost ≡ noneI64) ↔ NoWalk g q
-      go (inl k) = (λ e. k .1, λ f. ap (λ (x : Answer). x .cost) (k .0))
+      go : ((resultOf r e ≡ withPath g b noneI64 []) × NoWalk g q) ⊎ Found g q r → (r .cost ≡ noneI64) ↔ NoWalk g q
+      go (inl k) = (λ e. k .1, λ f. ap (λ (y : Result). y .cost) (k .0))
       go (inr k) = (λ e. absurd (omega (arith, zed, e, k .0)), λ f. absurd (f (r .cost) (k .2)))
 
 -- ---- from the source to itself
@@ -160,21 +159,23 @@ module _ {g : Net ℤ} {q : Question} {b : Buffers} where
   pub own-place : {e : Buffers} {r : Answer} → Promise g q b e r → Fine g q b → q .target ≡ q .source → (r ≡ answerOf 0 (pos 0) 1) × (pathIn e r ≡ q .source ∷ [])
   own-place {e} {r} promise w k = go (o .says)
     where
-      o : Outcome (ArcOf g) (g .bound) (mostArcsOf g) q b e r
-      o = outcome-of promise w
+      o : Outcome g q b (resultOf r e)
+      o = outcome-of promise w .0
 
       x : o .end ≡ doneAt (begin (searchOf q)) 1
-      x = ends-first q k refl (o .ends)
+      x = ends-first q k refl (one-place g q (o .ends))
 
       at : o .end .dist (q .target) ≡ some (pos 0)
       at = ap (λ (y : End ℤ). y .dist (q .target)) x ∙ ap distOf (ap (begin (searchOf q)) k ∙ first-dist q)
 
-      go : Says (ArcOf g) q (o .end) r (o .path) → (r ≡ answerOf 0 (pos 0) 1) × (pathIn e r ≡ q .source ∷ [])
+      number : r .number ≡ 0
+      number = outcome-of promise w .1 ∙ ap (λ (y : End ℤ). y .number) x
+
+      go : Says (ArcOf g) q (o .end) (o .cost) (o .path) → (r ≡ answerOf 0 (pos 0) 1) × (pathIn e r ≡ q .source ∷ [])
       go (unreached n p i) = absurd (let y : none ≡ some (pos 0) = sym n ∙ at in let j : _≡_ {A = ℕ} 0 1 = cc in omega arith)
-      go (reached d n c p i) =
-          let y : some d ≡ some (pos 0) = sym n ∙ at in
-          let cost : d ≡ pos 0 = cc in
-          let l : o .path ≡ q .source ∷ [] = i ∙ (ap reverse (passed-source c k) ∙ ap (λ (v : ℕ). v ∷ []) k) in (
-            p ∙ (λ j. answerOf (x j .number) (cost j) (length (l j))),
-            path-front o p ∙ l,
-          )
+      go (reached n c i) =
+          let y : some (o .cost) ≡ some (pos 0) = sym n ∙ at in
+          let cost : o .cost ≡ pos 0 = cc in
+          let l : o .path ≡ q .source ∷ [] = i ∙ (ap reverse (passed-source c k) ∙ ap (λ (v : ℕ). v ∷ []) k) in
+          let is : resultOf r e ≡ withPath g b (pos 0) (q .source ∷ []) = o .leaves ∙ (λ j. withPath g b (cost j) (l j)) in
+          (λ j. answerOf (number j) (is j .cost) (is j .length), path-front e r o ∙ l)

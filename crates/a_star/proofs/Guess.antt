@@ -23,7 +23,8 @@ use Rattle.rows.specs.Scratch.{hasLists}
 use Rattle.search.specs.Lists.{hasMemory}
 use Rattle.a_star.specs.Promise.{Question, questionOf, Answer, Buffers, longEnough, enough, isFair, fairAt, fairBelow, Fine, searchOf, Says, unreached, reached, resultOf, table, Promise}
 use Rattle.a_star.proofs.Refusals.{fair-absent, fair-present}
-use Rattle.a_star.proofs.Settles.{ran, outcome-of}
+use Rattle.a_star.proofs.Settles.{one-place, ran, outcome-of}
+use Rattle.a_star.proofs.Literal.{literal-exactly}
 
 -- what a turn stores does not look at the keys
 new-same : (q q′ : Question) {A : ℤ → Type 0} {u : ℕ} {d : ℤ} {old new : Cell ℤ} → NewCell (searchOf q) A u d old new → NewCell (searchOf q′) A u d old new
@@ -86,9 +87,9 @@ module _ (g : Net ℤ) (q : Question) (h : List ℤ) (same : (v : ℕ) → has g
         (ends-same (begin-within (searchOf q) (ArcOf g) (nodesOf g) (present-in g (q .source) source-in) (λ u v c a. present-in g v (heads-in u v c a))) r)
 
   -- an end says the same
-  says-same : {x : End ℤ} {r : Answer} {l : List ℕ} → Says (ArcOf g) q x r l → Says (ArcOf g) q′ x r l
+  says-same : {x : End ℤ} {d : ℤ} {l : List ℕ} → Says (ArcOf g) q x d l → Says (ArcOf g) q′ x d l
   says-same (unreached n p i) = unreached n p i
-  says-same (reached d n c p i) = reached d n c p i
+  says-same (reached n c i) = reached n c i
 
   module _ (b : Buffers) (long : leb (g .bound) (length (q .guess)) ≡ leb (g .bound) (length h)) where
     -- refusal 1 for both or for none
@@ -107,9 +108,10 @@ module _ (g : Net ℤ) (q : Question) (h : List ℤ) (same : (v : ℕ) → has g
         -- behind the tests the same outcome
         outcome : Fine g q b → Follows (table g q′ b) (resultOf r e) (r .number)
         outcome w =
-            let o = outcome-of promise w in
+            let (o, is) = outcome-of promise w in
+            let x = literal-exactly g q′ (o .end) .0 (end-same (w .source) (w .inside) (one-place g q (o .ends))) in
             ran (record { enough = sym enough-same ∙ w .enough; inside = w .inside; source = w .source; target = w .target; fair = sym (fair-same (g .bound)) ∙ w .fair })
-            (record { end = o .end; ends = end-same (w .source) (w .inside) (o .ends); path = o .path; says = says-same (o .says); leaves = o .leaves }) .follows
+            (record { end = o .end; ends = x; cost = o .cost; path = o .path; says = says-same (o .says); leaves = o .leaves }, is) .follows
 
         go : Follows (table g q b) (resultOf r e) (r .number) → Follows (table g q′ b) (resultOf r e) (r .number)
         go (here l x) = here (sym enough-same ∙ l) x

@@ -9,11 +9,11 @@ use mathlib.Core.Bool.{Bool, true, false}
 use mathlib.Core.List.{List, [], _∷_, _++_, reverse, reverse-cons}
 use mathlib.Core.Logic.{_⊎_, inl, inr, ⊎-elim}
 use mathlib.Core.Option.{Option, some}
-use Prim.Native.Nat.{ℕ, zero, suc, _+_, _-_, _≤_, _<_}
+use Prim.Native.Nat.{ℕ, zero, suc, _-_, _≤_, _<_}
 use native.Mathlib.Omega.{arith}
 use lib.Dec.{eqb}
 use lib.IntN.{ℤ}
-use lib.ListN.{length, getD, drop, set, length-append, length-drop}
+use lib.ListN.{length, getD, set, length-append}
 use borrow.Author.Tests.{eq-eqb, ne-eqb}
 use Rattle.walks.specs.Pigeon.{In, here, there, NoDup}
 use Rattle.walks.specs.Chain.{Chain, source, via, hops, passed, Path, start, onto}
@@ -74,11 +74,6 @@ front-more [] v [] h = absurd (omega arith)
 front-more [] v (y ∷ p) h = refl
 front-more (x ∷ l) v [] h = absurd (omega arith)
 front-more (x ∷ l) v (y ∷ p) h = ap (λ (r : List ℕ). x ∷ r) (front-more l v p (omega arith))
-
--- as long as before
-pub front-long : (l p : List ℕ) → length l ≤ length p → length (atFront l p) ≡ length p
-unfolding atFront
-front-long l p h = omega (arith, length-append l (drop (length l) p), length-drop (length l) p)
 
 -- one less than what is used is within it
 pub left-fits : {m t : ℕ} (l k : List ℕ) → m ≤ length l → t < m → length k ≡ length l → m - 1 < length k

@@ -26,8 +26,8 @@ use Rattle.rows.proofs.Kept.{has-lists}
 use Rattle.search.specs.Ints.{Fair}
 use Rattle.turns.specs.Firsts.{EnoughMemory}
 use Rattle.search.proofs.Lists.{has-memory}
-use Rattle.a_star.specs.Promise.{Question, without, Buffers, longEnough, enough, isFair, fairAt, fairBelow, fairGuess, Fine, noPath, table, Promise}
-use Rattle.a_star.specs.Parts.{questionNo, refusalNo}
+use Rattle.a_star.specs.Promise.{Question, Buffers, longEnough, enough, isFair, fairAt, fairBelow, fairGuess, Fine, noPath, table, Promise}
+use Rattle.a_star.specs.Parts.{questionNo, refusalNo, without}
 
 -- ---- the heuristic
 -- what the tests of one heuristic say

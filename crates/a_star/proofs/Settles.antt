@@ -4,70 +4,72 @@
 use mathlib.Core.Path.{_≡_, refl, sym, ap, _∙_, subst, fun-ext}
 use mathlib.Core.Bool.{Bool, true, false, _&&_}
 use mathlib.Core.List.{List, [], reverse}
-use mathlib.Core.Logic.{_⊎_, inl, inr, _↔_}
+use mathlib.Core.Logic.{_⊎_, inl, inr, ⊎-elim, _↔_}
 use mathlib.Core.Option.{Option, none, some}
 use Prim.Native.Nat.{ℕ, zero, suc, _≤_, _<_}
 use native.Mathlib.Omega.{arith}
 use lib.IntN.{ℤ, pos}
 use lib.ListN.{length, getD}
-use Rattle.whole.specs.Zed.{_⊕_}
 use Rattle.whole.proofs.Cases.{clash, other}
-use Rattle.numbers.specs.Numbers.{here, past, Follows, At, Given, Over}
+use Rattle.numbers.specs.Numbers.{here, past, Follows, At, Given}
+use Rattle.numbers.specs.Over.{Over}
 use Rattle.numbers.proofs.Numbers.{_then_, is-one, follows-one, exactly, given, follows-over, behind, follows-behind}
+use Rattle.clean.specs.Fill.{filled}
+use Rattle.clean.specs.None.{noneI64, noneU32}
 use Rattle.pending.specs.Setting.{End}
-use Rattle.pending.proofs.Ints.{whole-laws}
-use Rattle.pending.proofs.One.{begin-ok, ends-one, ends-map, number-is}
-use Rattle.net.specs.Net.{Net, ArcOf, has, mostArcsOf, SameNet}
+use Rattle.pending.specs.OnePlace.{begin, Ends}
+use Rattle.pending.proofs.Literal.{literal-one}
+use Rattle.pending.proofs.One.{ends-map, number-is}
+use Rattle.net.specs.Net.{Net, ArcOf, has, SameNet}
 use Rattle.net.proofs.Same.{same-inside, same-size}
-use Rattle.a_star.specs.Promise.{Question, Answer, answerOf, without, Buffers, longEnough, enough, isFair, fairAt, fairBelow, fairGuess}
-use Rattle.a_star.specs.Promise.{Fine, left, searchOf, EndsIn, Says, unreached, reached, Outcome, Result, resultOf, noPath, table, Promise}
+use Rattle.rows.specs.Rows.{rowsOf}
+use Rattle.a_star.specs.Promise.{Question, Answer, answerOf, Buffers, longEnough, enough, isFair, fairAt, fairBelow, fairGuess}
+use Rattle.a_star.specs.Promise.{Fine, atFront, wipedAll, searchOf, EndsIn, Says, unreached, reached, Result, resultOf, noPath, withPath, Outcome, table, Promise}
 use Rattle.a_star.proofs.Path.{passed-one, chain-over, passed-over}
 use Rattle.a_star.proofs.Refusals.{fair-absent, fair-present, fair-stop}
 use Rattle.a_star.proofs.Answers.{end-refused}
+use Rattle.a_star.proofs.Literal.{literal-exactly}
 
 -- ---- one outcome
 -- the search has one end
-pub end-one : {Arc : ℕ → ℕ → ℤ → Type 0} (q : Question) {x y : End ℤ} → EndsIn Arc q x → EndsIn Arc q y → x ≡ y
-end-one {Arc} q p r =
-    let L = whole-laws (λ d v. d ⊕ getD (q .guess) v (pos 0)) (some (q .target)) (q .source) in
-    ends-one (searchOf q) L Arc (begin-ok (searchOf q) L) p r
+pub end-one : (g : Net ℤ) (q : Question) {x y : End ℤ} → EndsIn g q x → EndsIn g q y → x ≡ y
+end-one g q p r = literal-one (searchOf q) (rowsOf g) p r
+
+-- with one place per index too
+pub one-place : (g : Net ℤ) (q : Question) {x : End ℤ} → EndsIn g q x → Ends (searchOf q) (ArcOf g) (begin (searchOf q)) 0 x
+one-place g q {x} r = literal-exactly g q x .1 r
 
 -- none is no distance
 nothing : {A : Type 0} {o : Option ℤ} {d : ℤ} → o ≡ none → o ≡ some d → A
 nothing {A} {o} {d} p z = absurd (let k : none ≡ some d = sym p ∙ z in let y : _≡_ {A = ℕ} 0 1 = cc in omega arith)
 
--- what an end says is one answer and one path
-says-one : {Arc : ℕ → ℕ → ℤ → Type 0} {q : Question} {x : End ℤ} {r s : Answer} {l k : List ℕ} → Says Arc q x r l → Says Arc q x s k → (r ≡ s) × (l ≡ k)
+-- what an end says is one cost and one path
+says-one : {Arc : ℕ → ℕ → ℤ → Type 0} {q : Question} {x : End ℤ} {d d′ : ℤ} {l l′ : List ℕ} → Says Arc q x d l → Says Arc q x d′ l′ → (d ≡ d′) × (l ≡ l′)
 says-one (unreached n p i) (unreached n′ p′ i′) = (p ∙ sym p′, i ∙ sym i′)
-says-one (unreached n p i) (reached d′ n′ c′ p′ i′) = nothing n n′
-says-one (reached d n c p i) (unreached n′ p′ i′) = nothing n′ n
-says-one {x = x} (reached d n c p i) (reached d′ n′ c′ p′ i′) =
-    let k : some d ≡ some d′ = sym n ∙ n′ in
-    let e : d ≡ d′ = cc in
-    let l = i ∙ (ap reverse (passed-one c c′ refl) ∙ sym i′) in
-    (p ∙ ((λ j. answerOf (x .number) (e j) (length (l j))) ∙ sym p′), l)
+says-one (unreached n p i) (reached n′ c′ i′) = nothing n n′
+says-one (reached n c i) (unreached n′ p′ i′) = nothing n′ n
+says-one {d = d} {d′} (reached n c i) (reached n′ c′ i′) = let k : some d ≡ some d′ = sym n ∙ n′ in (cc, i ∙ (ap reverse (passed-one c c′ refl) ∙ sym i′))
 
--- with the end's number
-says-number : {Arc : ℕ → ℕ → ℤ → Type 0} {q : Question} {x : End ℤ} {r : Answer} {l : List ℕ} → Says Arc q x r l → r .number ≡ x .number
-says-number (unreached n p i) = ap (λ (y : Answer). y .number) p
-says-number (reached d n c p i) = ap (λ (y : Answer). y .number) p
-
--- one answer and one path, whatever the buffers
-pub outcome-path : {Arc : ℕ → ℕ → ℤ → Type 0} {m a : ℕ} {q : Question} {b b′ e f : Buffers} {r s : Answer} (o : Outcome Arc m a q b e r) (u : Outcome Arc m a q b′ f s) → (r ≡ s) × (o .path ≡ u .path)
-outcome-path {Arc} {q = q} {s = s} o u = says-one (o .says) (subst (λ (x : End ℤ). Says Arc q x s (u .path)) (end-one q (u .ends) (o .ends)) (u .says))
+-- one cost and one path, whatever the buffers
+pub outcome-path : {g : Net ℤ} {q : Question} {b b′ : Buffers} {y y′ : Result} (o : Outcome g q b y) (u : Outcome g q b′ y′) → (o .cost ≡ u .cost) × (o .path ≡ u .path)
+outcome-path {g} {q} o u = says-one (o .says) (subst (λ (x : End ℤ). Says (ArcOf g) q x (u .cost) (u .path)) (end-one g q (u .ends) (o .ends)) (u .says))
 
 -- one outcome
-outcome-one : {Arc : ℕ → ℕ → ℤ → Type 0} {m a : ℕ} {q : Question} {b e f : Buffers} {r s : Answer} → Outcome Arc m a q b e r → Outcome Arc m a q b f s → (r ≡ s) × (e ≡ f)
-outcome-one {Arc} {m} {a} {q} {b} o u = let k = outcome-path o u in (k .0, o .leaves ∙ (ap (left m a b) (k .1) ∙ sym (u .leaves)))
+outcome-one : {g : Net ℤ} {q : Question} {b : Buffers} {y y′ : Result} → Outcome g q b y → Outcome g q b y′ → y ≡ y′
+outcome-one {g} {q} {b} o u = let k = outcome-path o u in o .leaves ∙ ((λ i. withPath g b (k .0 i) (k .1 i)) ∙ sym (u .leaves))
 
 -- ---- from the outcome to the promise, and back
 -- an end with 6 gives no path
-no-distance : (Arc : ℕ → ℕ → ℤ → Type 0) (q : Question) {x : End ℤ} → EndsIn Arc q x → x .number ≡ 6 → x .dist (q .target) ≡ none
-no-distance Arc q r z = ap (λ (y : End ℤ). y .dist (q .target)) (end-refused r (λ y. other 6 0 z y (λ w. omega arith)) .1)
+no-distance : (g : Net ℤ) (q : Question) {x : End ℤ} → EndsIn g q x → x .number ≡ 6 → x .dist (q .target) ≡ none
+no-distance g q r z = ap (λ (y : End ℤ). y .dist (q .target)) (end-refused (one-place g q r) (λ y. other 6 0 z y (λ w. omega arith)) .1)
 
--- the outcome of a search over the map
+-- an end with another number has 0
+zero-else : (g : Net ℤ) (q : Question) {x : End ℤ} → EndsIn g q x → (x .number ≡ 6 → ⊥) → x .number ≡ 0
+zero-else g q r f = ⊎-elim (λ z. z) (λ z. absurd (f z)) (number-is (one-place g q r))
+
+-- an outcome, and its end's number
 abbrev pub Ran : Net ℤ → Question → Buffers → Buffers → Answer → Type 0
-Ran g q b e r = Outcome (ArcOf g) (g .bound) (mostArcsOf g) q b e r
+Ran g q b e r = (o : Outcome g q b (resultOf r e)) × (r .number ≡ o .end .number)
 
 -- a refusal by a test: no path, and the buffers as lent
 abbrev pub Refused : Buffers → Buffers → Answer → Type 0
@@ -76,29 +78,23 @@ Refused b e r = (1 ≤ r .number) × (r .number ≤ 5) × (resultOf r e ≡ noPa
 -- behind the tests the promise says an outcome: after 6 one without a path
 run-of : (g : Net ℤ) (q : Question) (b e : Buffers) (r : Answer) → Follows (behind 5 (table g q b)) (resultOf r e) (r .number) → Ran g q b e r
 run-of g q b e r (here y x) =
-    let number : r .number ≡ y .0 .number = x .0 ∙ sym (y .2) in
-    let says : r ≡ without (y .0 .number) = λ j. answerOf (number j) (x .1 j .cost) (x .1 j .length) in
-    record { end = y .0; ends = y .1; path = []; says = unreached (no-distance (ArcOf g) q (y .1) (y .2)) says refl; leaves = ap (λ (z : Result). z .buffers) (x .1) }
-run-of g q b e r (past w (here y x)) = subst (Ran g q b e) (λ j. answerOf (sym (x .0) j) (r .cost) (r .length)) (x .1)
+    (record { end = y .0; ends = y .1; cost = noneI64; path = []; says = unreached (no-distance g q (y .1) (y .2)) refl refl; leaves = x .1 }, x .0 ∙ sym (y .2))
+run-of g q b e r (past w (here y x)) = let o = x .1 in (o, x .0 ∙ sym (zero-else g q (o .ends) (λ z. w (o .end, o .ends, z))))
 run-of g q b e r (past w (past y x)) = absurd x
 
 module _ {g : Net ℤ} {q : Question} {b e : Buffers} where
   -- an outcome is what the promise says
   pub ran : {r : Answer} → Fine g q b → Ran g q b e r → Promise g q b e r
-  ran {r} w o = record { follows = past (w .enough) (past (w .inside) (past (w .source) (past (w .target) (past (w .fair) (go (number-is (o .ends))))))) }
+  ran {r} w (o, is) =
+      record { follows = past (w .enough) (past (w .inside) (past (w .source) (past (w .target) (past (w .fair) (go (number-is (one-place g q (o .ends)))))))) }
     where
-      is : {k : ℕ} → o .end .number ≡ k → r .number ≡ k
-      is z = says-number (o .says) ∙ z
-
-      blank : o .end .number ≡ 6 → Says (ArcOf g) q (o .end) r (o .path) → resultOf r e ≡ noPath (left (g .bound) (mostArcsOf g) b [])
-      blank z (unreached n p i) = λ j. resultOf (p j) ((o .leaves ∙ ap (left (g .bound) (mostArcsOf g) b) i) j)
-      blank z (reached d n c p i) = nothing (no-distance (ArcOf g) q (o .ends) z) n
+      blank : o .end .number ≡ 6 → Says (ArcOf g) q (o .end) (o .cost) (o .path) → resultOf r e ≡ withPath g b noneI64 []
+      blank z (unreached n p i) = o .leaves ∙ (λ j. withPath g b (p j) (i j))
+      blank z (reached n c i) = nothing (no-distance g q (o .ends) z) n
 
       go : (o .end .number ≡ 0) ⊎ (o .end .number ≡ 6) → Follows (behind 5 (table g q b)) (resultOf r e) (r .number)
-      go (inl z) =
-          past (λ y. other 6 0 (y .2) (ap (λ (x : End ℤ). x .number) (end-one q (y .1) (o .ends)) ∙ z) (λ k. omega arith))
-          (here tt (is z, subst (Ran g q b e) (λ j. answerOf (is z j) (r .cost) (r .length)) o))
-      go (inr z) = here (o .end, o .ends, z) (is z, blank z (o .says))
+      go (inl z) = past (λ y. other 6 0 (y .2) (ap (λ (x : End ℤ). x .number) (end-one g q (y .1) (o .ends)) ∙ z) (λ k. omega arith)) (here tt (is ∙ z, o))
+      go (inr z) = here (o .end, o .ends, z) (is ∙ z, blank z (o .says))
 
   -- where nothing is refused there is an outcome
   pub outcome-of : {r : Answer} → Promise g q b e r → Fine g q b → Ran g q b e r
@@ -124,11 +120,8 @@ module _ {g : Net ℤ} {q : Question} {b : Buffers} where
   pub promise-one : {e f : Buffers} {r s : Answer} → Promise g q b e r → Promise g q b f s → (r ≡ s) × (e ≡ f)
   promise-one {e} {f} {r} {s} p p′ =
       let k = follows-one (table g q b) (resultOf r e) (resultOf s f) (r .number) (s .number)
-      (is-one then is-one then is-one then is-one then is-one then is-one then all then tt) (p .follows) (p′ .follows) in
+      (is-one then is-one then is-one then is-one then is-one then is-one then (λ x y o u. outcome-one o u) then tt) (p .follows) (p′ .follows) in
       (λ i. answerOf (k .0 i) (k .1 i .cost) (k .1 i .length), λ i. k .1 i .buffers)
-    where
-      all : (x y : Result) → Ran g q b (x .buffers) (answerOf 0 (x .cost) (x .length)) → Ran g q b (y .buffers) (answerOf 0 (y .cost) (y .length)) → x ≡ y
-      all x y o u = let k = outcome-one o u in λ i. resultOf (k .0 i) (k .1 i)
 
   module _ {e : Buffers} {r : Answer} (p : Promise g q b e r) where
     -- ---- each number exactly when its row is reached, and what is then left
@@ -169,23 +162,31 @@ module _ {g g′ : Net ℤ} (same : SameNet g g′) (q : Question) (b : Buffers)
   same-fair = λ i. fairBelow (fun-ext (λ v. same .has v) i) (q .guess) (same .bound i)
 
   -- the same is left
-  same-left : (l : List ℕ) → left (g .bound) (mostArcsOf g) b l ≡ left (g′ .bound) (mostArcsOf g′) b l
-  same-left l = λ i. left (same .bound i) (same-size same i) b l
+  same-result : (d : ℤ) (l : List ℕ) → withPath g b d l ≡ withPath g′ b d l
+  same-result d l = λ i. record {
+    cost = d;
+    length = length l;
+    buffers = record { path = atFront l (filled (same .bound i) noneU32 (b .path)); scratch = wipedAll (same .bound i) (same-size same i) (b .scratch) };
+  }
 
   -- an end of the one is an end of the other
   over : (u v : ℕ) (c : ℤ) → ArcOf g u v c → ArcOf g′ u v c
   over u v c = same .arcs u v c .0
 
-  ends-over : {x : End ℤ} → EndsIn (ArcOf g) q x → EndsIn (ArcOf g′) q x
-  ends-over r = ends-map (searchOf q) (ArcOf g) (ArcOf g′) over (λ u v c. same .arcs u v c .1) r
+  ends-over : {x : End ℤ} → EndsIn g q x → EndsIn g′ q x
+  ends-over {x} r = literal-exactly g′ q x .0 (ends-map (searchOf q) (ArcOf g) (ArcOf g′) over (λ u v c. same .arcs u v c .1) (one-place g q r))
 
-  ends-back : {x : End ℤ} → EndsIn (ArcOf g′) q x → EndsIn (ArcOf g) q x
-  ends-back r = ends-map (searchOf q) (ArcOf g′) (ArcOf g) (λ u v c. same .arcs u v c .1) over r
+  ends-back : {x : End ℤ} → EndsIn g′ q x → EndsIn g q x
+  ends-back {x} r = literal-exactly g q x .0 (ends-map (searchOf q) (ArcOf g′) (ArcOf g) (λ u v c. same .arcs u v c .1) over (one-place g′ q r))
 
   -- and says the same
-  says-over : {x : End ℤ} {r : Answer} {l : List ℕ} → Says (ArcOf g) q x r l → Says (ArcOf g′) q x r l
+  says-over : {x : End ℤ} {d : ℤ} {l : List ℕ} → Says (ArcOf g) q x d l → Says (ArcOf g′) q x d l
   says-over (unreached n p i) = unreached n p i
-  says-over (reached d n c p i) = reached d n (chain-over over c) p (i ∙ ap reverse (sym (passed-over over c)))
+  says-over (reached n c i) = reached n (chain-over over c) (i ∙ ap reverse (sym (passed-over over c)))
+
+  -- so the outcome of the one is that of the other
+  same-outcome : (y : Result) → Outcome g q b y → Outcome g′ q b y
+  same-outcome y o = record { end = o .end; ends = ends-over (o .ends); cost = o .cost; path = o .path; says = says-over (o .says); leaves = o .leaves ∙ same-result (o .cost) (o .path) }
 
   -- row by row
   same-table : Over (table g q b) (table g′ q b)
@@ -195,8 +196,8 @@ module _ {g g′ : Net ℤ} (same : SameNet g g′) (q : Question) (b : Buffers)
       then (refl, same .has (q .source), λ y p. p)
       then (refl, same .has (q .target), λ y p. p)
       then (refl, same-fair, λ y p. p)
-      then (refl, (λ x. (x .0, ends-over (x .1), x .2), λ x. (x .0, ends-back (x .1), x .2)), λ y p. p ∙ ap noPath (same-left []))
-      then (refl, (λ u. u, λ u. u), λ y o. record { end = o .end; ends = ends-over (o .ends); path = o .path; says = says-over (o .says); leaves = o .leaves ∙ same-left (o .path) })
+      then (refl, (λ x. (x .0, ends-over (x .1), x .2), λ x. (x .0, ends-back (x .1), x .2)), λ y p. p ∙ same-result noneI64 [])
+      then (refl, (λ u. u, λ u. u), same-outcome)
       then tt
 
   -- the same answer and the same buffers

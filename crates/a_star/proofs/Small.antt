@@ -14,13 +14,12 @@ use Rattle.pending.specs.Literal as Lit
 use Rattle.pending.specs.Literal.{start, run}
 use Rattle.pending.proofs.Literal.{run-ends}
 use Rattle.table.specs.Links.{present, presentBoth, arcsOf}
-use Rattle.net.specs.Net.{Net, netOf, ArcOf, mostArcsOf}
+use Rattle.net.specs.Net.{Net, netOf, ArcOf}
 use Rattle.rows.specs.Rows.{rowsOf}
-use Rattle.a_star.specs.Promise.{Question, questionOf, Answer, answerOf, Buffers, enough, isFair, fairAt, Fine, searchOf, Says, unreached, reached, Outcome, Promise}
+use Rattle.a_star.specs.Promise.{Question, questionOf, Answer, answerOf, Buffers, enough, isFair, fairAt, Fine, searchOf, Says, unreached, reached, resultOf, withPath, Outcome, Promise}
 use Rattle.a_star.specs.Given.{pathIn}
 use Rattle.a_star.proofs.Settles.{end-one, outcome-of}
 use Rattle.a_star.proofs.Gives.{path-front}
-use Rattle.a_star.proofs.Literal.{literal-exactly}
 
 -- the predecessors from v back to s, v first
 pub data Back (pred : ℕ → Option ℕ) (s : ℕ) : ℕ → List ℕ → Type 0 where
@@ -41,18 +40,25 @@ back-passed {pred = pred} (via u n p k c) (next u′ n′ p′ b) q =
 pub by-bag : {g : Net ℤ} {q : Question} {b e : Buffers} {r : Answer} → Promise g q b e r → Fine g q b → (x : End ℤ) → Lit.Ends (searchOf q) (rowsOf g) (Lit.start (searchOf q)) x → (d : ℤ) (l : List ℕ)
     → x .number ≡ 0 → x .dist (q .target) ≡ some d → Back (x .pred) (q .source) (q .target) l
     → (r ≡ answerOf 0 d (length (reverse l))) × (pathIn e r ≡ reverse l)
-by-bag {g} {q} {b} {e} {r} promise w x y d l z n k = go (subst (λ (u : End ℤ). Says (ArcOf g) q u r (o .path)) (end-one q (o .ends) (literal-exactly g q x .1 y)) (o .says))
+by-bag {g} {q} {b} {e} {r} promise w x y d l z n k = go (subst (λ (u : End ℤ). Says (ArcOf g) q u (o .cost) (o .path)) end (o .says))
   where
-    o : Outcome (ArcOf g) (g .bound) (mostArcsOf g) q b e r
-    o = outcome-of promise w
+    o : Outcome g q b (resultOf r e)
+    o = outcome-of promise w .0
 
-    go : Says (ArcOf g) q x r (o .path) → (r ≡ answerOf 0 d (length (reverse l))) × (pathIn e r ≡ reverse l)
+    end : o .end ≡ x
+    end = end-one g q (o .ends) y
+
+    number : r .number ≡ 0
+    number = outcome-of promise w .1 ∙ (ap (λ (u : End ℤ). u .number) end ∙ z)
+
+    go : Says (ArcOf g) q x (o .cost) (o .path) → (r ≡ answerOf 0 d (length (reverse l))) × (pathIn e r ≡ reverse l)
     go (unreached n′ p i) = absurd (let j : none ≡ some d = sym n′ ∙ n in let h : _≡_ {A = ℕ} 0 1 = cc in omega arith)
-    go (reached d′ n′ c p i) =
-        let j : some d′ ≡ some d = sym n′ ∙ n in
-        let cost : d′ ≡ d = cc in
-        let is : o .path ≡ reverse l = i ∙ ap reverse (back-passed c k refl) in
-        (p ∙ (λ t. answerOf (z t) (cost t) (length (is t))), path-front o p ∙ is)
+    go (reached n′ c i) =
+        let j : some (o .cost) ≡ some d = sym n′ ∙ n in
+        let cost : o .cost ≡ d = cc in
+        let path : o .path ≡ reverse l = i ∙ ap reverse (back-passed c k refl) in
+        let is : resultOf r e ≡ withPath g b d (reverse l) = o .leaves ∙ (λ t. withPath g b (cost t) (path t)) in
+        (λ t. answerOf (number t) (is t .cost) (is t .length), path-front e r o ∙ path)
 
 -- ---- S7 and S8
 -- their map

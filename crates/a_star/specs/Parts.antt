@@ -7,15 +7,17 @@ use Prim.Native.Nat.{ℕ, _-_, _≤_, _<_}
 use lib.IntN.{ℤ}
 use lib.Signed.{ltZ}
 use lib.ListN.{length, getD, take}
-use Rattle.numbers.specs.Numbers.{firstNo}
+use Rattle.numbers.specs.Tests.{firstNo}
 use Rattle.clean.specs.Fill.{filled}
 use Rattle.clean.specs.None.{noneI64, noneU32}
 use Rattle.pending.specs.Setting.{End}
+use Rattle.pending.specs.OnePlace.{begin, Ends}
 use Rattle.net.specs.Net.{Net, netOf, insideNet, has}
 use Rattle.rows.specs.Kept.{KeptLists, EnoughLists}
 use Rattle.turns.specs.Memory.{Shows}
 use Rattle.turns.specs.Firsts.{firsts, EnoughMemory, KeptMemory}
-use Rattle.a_star.specs.Promise.{Question, Answer, answerOf, without, Scratch, Buffers, fairGuess, Fine, atFront, EndsIn, table}
+use Rattle.a_star.specs.Promise.{Question, Answer, answerOf, Scratch, Buffers, fairGuess, Fine, atFront}
+use Rattle.a_star.specs.Promise.{searchOf, resultOf, Outcome, table}
 use Rattle.a_star.specs.Trail.{trail, GoesBack}
 
 -- refusals 2 to 5 in this order, else 0
@@ -44,11 +46,15 @@ pub record CanSeek (m n : ℕ) (d : Bool) (xs ys : List ℕ) (cs : List ℤ) (q 
 -- the search is over: its end, which the lists show, and the rest of each list as before
 pub record Sought (Arc : ℕ → ℕ → ℤ → Type 0) (m a : ℕ) (q : Question) (s t : Scratch) (number : ℕ) : Type 0 where
   pub end : End ℤ
-  pub ends : EndsIn Arc q end
+  pub ends : Ends (searchOf q) Arc (begin (searchOf q)) 0 end
   pub is : number ≡ end .number
   pub shows : number ≡ 0 → Shows noneI64 end (firsts m (t .memory))
   pub rows : KeptLists m a (s .rows) (t .rows)
   pub memory : KeptMemory m (s .memory) (t .memory)
+
+-- without a path: cost none, length 0
+abbrev pub without : ℕ → Answer
+without k = answerOf k noneI64 0
 
 -- has v a distance?
 unfoldable pub given : List ℤ → ℕ → Bool
@@ -73,3 +79,8 @@ pub data Read (number m s t : ℕ) (ds : List ℤ) (ps l l′ : List ℕ) (r : A
   nowhere : number ≡ 0 → given ds t ≡ false → r ≡ without 0 → l′ ≡ filled m noneU32 l → Read number m s t ds ps l l′ r
   found : number ≡ 0 → given ds t ≡ true → r ≡ answerOf 0 (getD ds t noneI64) (length (pathBack m ps s t))
       → l′ ≡ atFront (pathBack m ps s t) (filled m noneU32 l) → Read number m s t ds ps l l′ r
+
+-- the whole call behind the refusals, where no mark is looked at: so whatever the marks are
+abbrev pub Solved : ℕ → ℕ → Bool → List ℕ → List ℕ → List ℤ → Question → Buffers → Buffers → Answer → Type 0
+Solved m n d xs ys cs q b e r =
+    (marks : List ℕ) → (o : Outcome (netOf m n d marks xs ys cs) q b (resultOf r e)) × (r .number ≡ o .end .number)

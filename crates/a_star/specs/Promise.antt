@@ -14,10 +14,10 @@ use Rattle.clean.specs.Fill.{filled}
 use Rattle.clean.specs.None.{noneI64, noneU32}
 use Rattle.walks.specs.Chain.{Chain, passed}
 use Rattle.pending.specs.Setting.{Setting, End}
-use Rattle.pending.specs.OnePlace.{begin, Ends}
+use Rattle.pending.specs.Literal.{start, Ends}
 use Rattle.pending.specs.Ints.{aStar}
 use Rattle.net.specs.Net.{Net, ArcOf, wholeNet, insideNet, has, mostArcsOf}
-use Rattle.rows.specs.Rows.{Lists, listsOf}
+use Rattle.rows.specs.Rows.{Lists, listsOf, rowsOf}
 use Rattle.rows.specs.Scratch.{hasLists, wiped}
 use Rattle.turns.specs.Memory.{Memory, memoryOf}
 use Rattle.search.specs.Lists.{hasMemory, wipedMemory}
@@ -41,10 +41,6 @@ pub record Answer : Type 0 where
 -- the same, of its parts
 abbrev pub answerOf : ℕ → ℤ → ℕ → Answer
 answerOf k d n = record { number = k; cost = d; length = n }
-
--- without a path: cost none, length 0
-abbrev pub without : ℕ → Answer
-without k = answerOf k noneI64 0
 
 -- the lent scratch: the neighbour list and the lists that the search writes
 pub record Scratch : Type 0 where
@@ -108,33 +104,25 @@ abbrev pub wipedAll : ℕ → ℕ → Scratch → Scratch
 wipedAll m a s = record { rows = wiped m a (pos 0) (s .rows); memory = wipedMemory m (s .memory) }
 
 -- a path from the first entry on and none after its end up to m; the scratch wiped
-abbrev pub left : ℕ → ℕ → Buffers → List ℕ → Buffers
-left m a b l = record { path = atFront l (filled m noneU32 (b .path)); scratch = wipedAll m a (b .scratch) }
+abbrev pub left : Net ℤ → Buffers → List ℕ → Buffers
+left g b l = record { path = atFront l (filled (g .bound) noneU32 (b .path)); scratch = wipedAll (g .bound) (mostArcsOf g) (b .scratch) }
 
 -- ---- the answer
 -- the pending bag's search for the question: the heuristic of an index is what its entry says
 abbrev pub searchOf : Question → Setting ℤ ℤ
 searchOf q = aStar (λ v. getD (q .guess) v (pos 0)) (q .source) (q .target)
 
--- what the pending bag ends in, for the question, over the arcs
-abbrev pub EndsIn : (ℕ → ℕ → ℤ → Type 0) → Question → End ℤ → Type 0
-EndsIn Arc q x = Ends (searchOf q) Arc (begin (searchOf q)) 0 x
+-- what 01's pending bag ends in, for the question, over the rows of the map
+abbrev pub EndsIn : Net ℤ → Question → End ℤ → Type 0
+EndsIn g q x = Ends (searchOf q) (rowsOf g) (start (searchOf q)) x
 
--- what the search's end x says: the answer r, with its number, and the path l by the predecessors, its first index first
-pub data Says (Arc : ℕ → ℕ → ℤ → Type 0) (q : Question) (x : End ℤ) (r : Answer) (l : List ℕ) : Type 0 where
-  -- the target has no distance, as at each end with 6: cost none, and no path
-  unreached : x .dist (q .target) ≡ none → r ≡ without (x .number) → l ≡ [] → Says Arc q x r l
+-- what the search's end x says: the cost d, and the path l by the predecessors, its first index first
+pub data Says (Arc : ℕ → ℕ → ℤ → Type 0) (q : Question) (x : End ℤ) (d : ℤ) (l : List ℕ) : Type 0 where
+  -- the target has no distance: cost none, and no path
+  unreached : x .dist (q .target) ≡ none → d ≡ noneI64 → l ≡ [] → Says Arc q x d l
   -- the cost is the target's distance, and the path goes back from the target to the source
-  reached : (d : ℤ) → x .dist (q .target) ≡ some d → (c : Chain Arc (q .source) (x .dist) (x .pred) (q .target))
-      → r ≡ answerOf (x .number) d (length l) → l ≡ reverse (passed c) → Says Arc q x r l
-
--- the search was run: what it ends in, what that says, and what is left in the buffers
-pub record Outcome (Arc : ℕ → ℕ → ℤ → Type 0) (m a : ℕ) (q : Question) (b e : Buffers) (r : Answer) : Type 0 where
-  pub end : End ℤ
-  pub ends : EndsIn Arc q end
-  pub path : List ℕ
-  pub says : Says Arc q end r path
-  pub leaves : e ≡ left m a b path
+  reached : x .dist (q .target) ≡ some d → (c : Chain Arc (q .source) (x .dist) (x .pred) (q .target)) → l ≡ reverse (passed c)
+      → Says Arc q x d l
 
 -- what a call leaves: the cost and how many indices the path has, both returned beside the number, and the buffers
 pub record Result : Type 0 where
@@ -149,6 +137,19 @@ resultOf r e = record { cost = r .cost; length = r .length; buffers = e }
 -- without a path: cost none, length 0
 abbrev pub noPath : Buffers → Result
 noPath e = record { cost = noneI64; length = 0; buffers = e }
+
+-- with the cost d and the path l
+abbrev pub withPath : Net ℤ → Buffers → ℤ → List ℕ → Result
+withPath g b d l = record { cost = d; length = length l; buffers = left g b l }
+
+-- the search was run: what it ends in, what that says, and so what is left
+pub record Outcome (g : Net ℤ) (q : Question) (b : Buffers) (y : Result) : Type 0 where
+  pub end : End ℤ
+  pub ends : EndsIn g q end
+  pub cost : ℤ
+  pub path : List ℕ
+  pub says : Says (ArcOf g) q end cost path
+  pub leaves : y ≡ withPath g b cost path
 
 -- the table: what the call leaves is y, of the map g, the question q and the buffers b that it was lent. Of leastness it says nothing:
 -- with the arcs 0→1 5, 0→2 6, 2→1 −3, heuristic 0 and target 1 it gives 0 with cost 5, though 3 is least, since the arc below zero is not
@@ -166,9 +167,9 @@ table g q b =
     -- 5: some index that the map has has a heuristic outside -2^42 ..= 2^42; untouched
     ∷ row 5 (fails (fairGuess g (q .guess))) (λ y. y ≡ noPath b)
     -- 6: the pending bag looks at an arc of cost below zero; blank, a path of no index
-    ∷ row 6 (holds ((x : End ℤ) × EndsIn (ArcOf g) q x × (x .number ≡ 6))) (λ y. y ≡ noPath (left (g .bound) (mostArcsOf g) b []))
+    ∷ row 6 (holds ((x : End ℤ) × EndsIn g q x × (x .number ≡ 6))) (λ y. y ≡ withPath g b noneI64 [])
     -- 0: what the pending bag ends in says the cost and the path
-    ∷ done (λ y. Outcome (ArcOf g) (g .bound) (mostArcsOf g) q b (y .buffers) (answerOf 0 (y .cost) (y .length)))
+    ∷ done (Outcome g q b)
     ∷ []
 
 -- the answer r and the buffers e that the call leaves are those of the first row whose condition holds

@@ -8,10 +8,10 @@ ghost use lib.ListN.{length, getD};
 ghost use Rattle.table.specs.Links.{present, links, Arc};
 ghost use Rattle.clean.specs.None.{noneI64};
 ghost use Rattle.net.specs.Net.{netOf, wholeNet, mostArcs};
-ghost use Rattle.a_star.specs.Promise.{Promise, Outcome, questionOf, answerOf, buffersOf, scratchOf};
+ghost use Rattle.a_star.specs.Promise.{Promise, questionOf, answerOf, buffersOf, scratchOf};
 ghost use Rattle.a_star.specs.Promise.{longEnough, isFair, fairAt, fairBelow, atFront, wipedAll};
 ghost use Rattle.a_star.specs.Trail.{trail, GoesBack};
-ghost use Rattle.a_star.specs.Parts.{questionNo, refusalNo, EnoughScratch, CanSeek, Ripe, Sought, given, Told, Read};
+ghost use Rattle.a_star.specs.Parts.{questionNo, refusalNo, EnoughScratch, CanSeek, Ripe, Sought, given, Told, Read, Solved};
 
 // The number that comes back, the cost, and how many indices the path has.
 pub struct Found {
@@ -345,9 +345,7 @@ fn solve(
         (now (preds .entry)) (now (peaks .entry)) (now (words .entry)) (now (keys .entry)) in
         let left = buffersOf (now (path .exit)) (now (offsets .exit)) (now (heads .exit)) (now (weights .exit)) (now (dist .exit))
         (now (preds .exit)) (now (peaks .exit)) (now (words .exit)) (now (keys .exit)) in
-        ⌜ Outcome
-        (Arc (map .directed) (links (map .count) (now (from .entry)) (now (to .entry)) (now (costs .entry)))) (map .bound)
-        (mostArcs (map .directed) (map .count))
+        ⌜ Solved (map .bound) (map .count) (map .directed) (now (from .entry)) (now (to .entry)) (now (costs .entry))
         (questionOf source target (now (guess .entry))) lent left
         (answerOf (r .number) (r .cost) (r .length)) ⌝ }
 {

@@ -11,8 +11,7 @@ use lib.IntN.{ℤ}
 use lib.ListN.{length, length-append, drop}
 use Rattle.clean.specs.Fill.{filled}
 use Rattle.clean.specs.None.{noneU32}
-use Rattle.net.specs.Net.{Net, ArcOf}
-use Rattle.pending.specs.Setting.{End}
+use Rattle.net.specs.Net.{Net}
 use Rattle.lines.specs.Text.{Printed, decimalText, newlineText}
 use Rattle.lines.proofs.Digits.{decimal-text-length}
 use Rattle.text.specs.Text.{refusedLine, answerText}
@@ -39,8 +38,8 @@ path-within l p = omega (arith, length-append l (drop (length l) p))
 pub path-fits : {g : Net ℤ} {q : star.Question} {b e : star.Buffers} {r : star.Answer} → star.Promise g q b e r → r .length ≤ length (e .path)
 path-fits {g} {q} {b} {e} {r} p =
     ⊎-elim (λ x. omega (arith, ap (λ (y : star.Result). y .length) (x .2)))
-    (λ x. said (filled (g .bound) noneU32 (b .path)) (ap (λ (y : star.Buffers). y .path) (x .1 .leaves)) (x .1 .says)) (cases p)
+    (λ x. said (filled (g .bound) noneU32 (b .path)) (x .1 .0 .path) (ap (λ (y : star.Result). y .length) (x .1 .0 .leaves)) (ap (λ (y : star.Result). y .buffers .path) (x .1 .0 .leaves)))
+    (cases p)
   where
-    said : {x : End ℤ} {l : List ℕ} (p : List ℕ) → e .path ≡ star.atFront l p → star.Says (ArcOf g) q x r l → r .length ≤ length (e .path)
-    said p w (star.unreached d a i) = omega (arith, ap (λ (y : star.Answer). y .length) a)
-    said {l = l} p w (star.reached d f c a i) = omega (arith, ap (λ (y : star.Answer). y .length) a, ap length w, path-within l p)
+    said : (p l : List ℕ) → r .length ≡ length l → e .path ≡ star.atFront l p → r .length ≤ length (e .path)
+    said p l n w = omega (arith, n, ap length w, path-within l p)

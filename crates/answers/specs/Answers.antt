@@ -94,4 +94,4 @@ DijkstraPath g source =
     Shown (λ number e.
     path.Promise g source None
     (path.buffersOf (zeros 64) (zeros 64) (zeros 65) (zeros 1024) (zeros 1024) (zeros 64) (zeros 64) (zeros 64)) e number)
-    (λ e. treeLines (has g) (g .bound) (e .dist) (e .preds))
+    (λ e. treeLines (has g) (g .bound) (e .memory .dist) (e .memory .preds))

@@ -88,7 +88,8 @@ dijkstra-reliable =
 pub a-star-reliable : Reliable ints (λ g q b e r. star.Promise g q b e r) (λ r. r .number) (λ g q b. star.enough g q b) (λ g. aStarUsed (g .bound) (mostArcsOf g))
 a-star-reliable =
     reliable ints _ (λ (r : star.Answer). r .number) (λ g q b. star.enough g q b) _ (λ _ _ _ _ _ _ _ p q. demand1.a-star-settled p q) (λ f z _ _ _ _. demand.a-star-of-last-records f z)
-    (λ _ _ same _ _ _ _ _ _ _ l p q. demand.a-star-by-last-records same l p q) (λ _ _ _ _ _ p n. told.a-star-leaves p .0 n .1) (λ f z o _ _ _ _ p. demand.a-star-past-limits f z o p)
+    (λ _ _ same _ _ _ _ _ _ _ l p q. demand.a-star-by-last-records same l p q) (λ _ _ _ _ _ p n. ap (λ (y : star.Result). y .buffers) (told.a-star-leaves p .0 n))
+    (λ f z o _ _ _ _ p. demand.a-star-past-limits f z o p)
 
 pub bellman-ford-reliable : Reliable ints (λ g s b e n. bellman.Promise g s b e n) (λ n. n) (λ g s b. bellman.enough g b) (λ g. bellmanUsed (g .bound) (mostArcsOf g))
 bellman-ford-reliable =

@@ -22,7 +22,7 @@ use Rattle.table.specs.Feeds.{ints, Feed}
 use Rattle.walks.specs.Walk.{Walk, Least, NegativeFrom, Negative}
 use Rattle.walks.specs.Pigeon.{NoDup}
 use Rattle.walks.specs.Chain.{Path, Cheapest}
-use Rattle.net.specs.Net.{Net, ArcOf, LeadsOf, nodesOf, width, insideNet, has, mostArcsOf}
+use Rattle.net.specs.Net.{Net, ArcOf, LeadsOf, nodesOf, width, insideNet, has}
 use Rattle.rows.specs.Rows.{rowsOf, openRows}
 use Rattle.pending.specs.Setting.{End}
 use Rattle.pending.specs.Literal as Lit
@@ -118,10 +118,15 @@ hops-fewest g a z i j h k = let x = demand2.hops-distances g a z i j h k in ((λ
 -- ---- the pending bag ends, and whatever it ends in, the answer is that
 pub a-star-by-bag : {g : Net ℤ} {q : star.Question} {b e : star.Buffers} {r : star.Answer} → star.Promise g q b e r → star.Fine g q b
     → let Bag = Lit.Ends (star.searchOf q) (rowsOf g) (Lit.start (star.searchOf q)) in
-    ((x : End ℤ) × Bag x) × ((x : End ℤ) → Bag x → (l : List ℕ) × star.Says (ArcOf g) q x r l × (e ≡ star.left (g .bound) (mostArcsOf g) b l))
-a-star-by-bag {g} {q} {r = r} p w =
-    let y = a-star-bag p w in
-    ((y .0, y .2), λ x run. (y .1, subst (λ (z : End ℤ). star.Says (ArcOf g) q z r (y .1)) (literal-one (star.searchOf q) (rowsOf g) (y .2) run) (y .3), y .4))
+    ((x : End ℤ) × Bag x)
+    × ((x : End ℤ) → Bag x → (r .number ≡ x .number) × (d : ℤ) × (l : List ℕ) × star.Says (ArcOf g) q x d l × (star.resultOf r e ≡ star.withPath g b d l))
+a-star-by-bag {g} {q} {b} {e} {r} p w =
+    let y = a-star-bag p w in (
+      (y .0, y .1),
+      λ x run.
+          subst (λ (z : End ℤ). (r .number ≡ z .number) × (d : ℤ) × (l : List ℕ) × star.Says (ArcOf g) q z d l × (star.resultOf r e ≡ star.withPath g b d l))
+          (literal-one (star.searchOf q) (rowsOf g) (y .1) run) (y .2, y .3, y .4, y .5, y .6),
+    )
 
 pub dijkstra-path-by-bag : {g : Net FloatCost} {s : ℕ} {k : Cutoff} {b e : search.Buffers} {n : ℕ} → search.Promise g s k b e n → search.enough g b ≡ true → insideNet g ≡ true → has g s ≡ true
     → let Bag = Lit.Ends (search64 (past k) none s) (openRows g) (Lit.start (search64 (past k) none s)) in
@@ -157,7 +162,8 @@ a-star-finds {g} {q} {r = r} p z =
 -- ---- the exact case: the f64 search gives the patterns of the least totals
 pub exact-least : {g : Net ℤ} {h : Net FloatCost} {s : ℕ} {b e : dijkstra.Buffers} {b′ e′ : search.Buffers} {n n′ : ℕ} → Converted g h → dijkstra.Promise g s b e n → search.Promise h s None b′ e′ n′
     → (n ≡ 1 → ⊥) → (n′ ≡ 1 → ⊥) → n′ ≡ 0 → (v : ℕ) → v < g .bound
-    → ((getD (e′ .dist) v noneF64 ≡ noneF64) × ((t : ℤ) → Walk (ArcOf g) s v t → ⊥)) ⊎ ((k : ℕ) × (k ≤ 2 ^ 53) × (getD (e′ .dist) v noneF64 ≡ pattern (pos k)) × Least (ArcOf g) s v (pos k))
+    → ((getD (e′ .memory .dist) v noneF64 ≡ noneF64) × ((t : ℤ) → Walk (ArcOf g) s v t → ⊥))
+    ⊎ ((k : ℕ) × (k ≤ 2 ^ 53) × (getD (e′ .memory .dist) v noneF64 ≡ pattern (pos k)) × Least (ArcOf g) s v (pos k))
 exact-least {g} {s = s} {e = e} {e′ = e′} c p r f f′ z v l =
     let a = exact-case c p r f f′ in let y = a .number ∙ z in go (demand2.dijkstra-distances p y v l) (a .distances y v l)
   where

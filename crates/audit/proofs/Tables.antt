@@ -1,7 +1,7 @@
 -- What a caller reads off the number. `QUESTION-leaves`: the number tells what is in the buffers. `QUESTION-zero`: 0 exactly where nothing is wrong.
 -- `QUESTION-fits`: there is scratch of at most 8(m + 1) + 4a entries with which no call gives 1.
 -- Assumes nothing.
-use mathlib.Core.Path.{_≡_, refl, ap, subst}
+use mathlib.Core.Path.{_≡_, refl, ap}
 use mathlib.Core.Bool.{Bool, true, false}
 use mathlib.Core.List.{List, []}
 use mathlib.Core.Logic.{_⊎_, inl, inr, ⊎-elim, _↔_}
@@ -11,7 +11,7 @@ use borrow.Author.Tests.{ltb-true, ltb-false}
 use lib.Dec.{ltb}
 use lib.IntN.{ℤ}
 use lib.ListN.{length, take, set}
-use Rattle.whole.proofs.Cases.{clash, other}
+use Rattle.whole.proofs.Cases.{clash}
 use Rattle.numbers.specs.Numbers.{Given, Follows}
 use Rattle.numbers.proofs.Numbers.{_then_, given, left, among}
 use Rattle.clean.specs.Fill.{filled}
@@ -25,14 +25,12 @@ use Rattle.net.specs.Net.{Net, ArcOf, insideNet, has, wholeNet, width, mostArcs
 use Rattle.rows.specs.Rows.{Lists}
 use Rattle.rows.specs.Kept.{Kept}
 use Rattle.rows.proofs.Kept.{kept-settled}
-use Rattle.pending.specs.Setting.{End, refused}
-use Rattle.pending.specs.OnePlace.{begin, Ends}
+use Rattle.pending.specs.Setting.{End}
 use Rattle.pending.specs.Reach.{BadInReach}
 use Rattle.matrix.specs.Matrix.{square}
 use Rattle.matrix.specs.Matrix as pairs
 use Rattle.dijkstra.specs.Promise as dijkstra
 use Rattle.a_star.specs.Promise as star
-use Rattle.a_star.proofs.Answers.{end-refused}
 use Rattle.bellman_ford.specs.Promise as bellman
 use Rattle.bellman_ford.proofs.Settles as bellman-laws
 use Rattle.floyd_warshall.specs.Promise as floyd
@@ -65,7 +63,8 @@ module _ {g : Net ℤ} {s : ℕ} {b e : dijkstra.Buffers} {number : ℕ} (p : di
 module _ {g : Net FloatCost} {s : ℕ} {k : Cutoff} {b e : search.Buffers} {number : ℕ} (p : search.Promise g s k b e number) where
   pub dijkstra-path-leaves :
       (number ≡ 1 → e ≡ b) × (number ≡ 2 → e ≡ b) × (number ≡ 3 → e ≡ b) × (number ≡ 6 → e ≡ search.blank g b)
-      × (number ≡ 0 → Kept (g .bound) (b .dist) (e .dist) × Kept (g .bound) (b .preds) (e .preds) × (e ≡ search.left g b (e .dist) (e .preds)))
+      × (number ≡ 0 → Kept (g .bound) (b .memory .dist) (e .memory .dist) × Kept (g .bound) (b .memory .preds) (e .memory .preds)
+      × (e ≡ search.left g b (e .memory .dist) (e .memory .preds)))
   dijkstra-path-leaves =
       let f = left (search.table g s k b) e number (dijkstra-path-follows p) in (
         f 1,
@@ -95,27 +94,19 @@ module _ {g : Net ℤ} {s : ℕ} {b e : bellman.Buffers} {number : ℕ} (p : bel
 -- ---- `a_star`
 module _ {g : Net ℤ} {q : star.Question} {b e : star.Buffers} {r : star.Answer} (p : star.Promise g q b e r) where
   abbrev Lent : ℕ → Type 0
-  Lent k = r .number ≡ k → (r ≡ star.without k) × (e ≡ b)
+  Lent k = r .number ≡ k → star.resultOf r e ≡ star.noPath b
 
   pub a-star-leaves :
-      Lent 1 × Lent 2 × Lent 3 × Lent 4 × Lent 5 × (r .number ≡ 6 → (r ≡ star.without 6) × (e ≡ star.left (g .bound) (mostArcsOf g) b []))
-      × (r .number ≡ 0 → (l : List ℕ) × (length l ≤ width g) × (r .length ≡ length l) × (e ≡ star.left (g .bound) (mostArcsOf g) b l))
-  a-star-leaves =
-      let f = left (star.table g q b) (star.resultOf r e) (r .number) (a-star-follows p) in
-      (λ z. told 1 z (f 1 z), λ z. told 2 z (f 2 z), λ z. told 3 z (f 3 z), λ z. told 4 z (f 4 z), λ z. told 5 z (f 5 z), λ z. told 6 z (f 6 z), a-star-length p)
-    where
-      told : (k : ℕ) → r .number ≡ k → {x : star.Buffers} → star.resultOf r e ≡ star.noPath x → (r ≡ star.without k) × (e ≡ x)
-      told k z y = ((λ i. star.answerOf (z i) (y i .cost) (y i .length)), λ i. y i .buffers)
+      Lent 1 × Lent 2 × Lent 3 × Lent 4 × Lent 5 × (r .number ≡ 6 → star.resultOf r e ≡ star.noPath (star.left g b []))
+      × (r .number ≡ 0 → (l : List ℕ) × (length l ≤ width g) × (r .length ≡ length l) × (e ≡ star.left g b l))
+  a-star-leaves = let f = left (star.table g q b) (star.resultOf r e) (r .number) (a-star-follows p) in (f 1, f 2, f 3, f 4, f 5, f 6, a-star-length p)
 
-  pub a-star-zero : (r .number ≡ 0) ↔ (star.Fine g q b × ((k : ℕ) → Ends (star.searchOf q) (ArcOf g) (begin (star.searchOf q)) 0 (refused k) → ⊥))
+  pub a-star-zero : (r .number ≡ 0) ↔ (star.Fine g q b × ((x : End ℤ) → star.EndsIn g q x → x .number ≡ 6 → ⊥))
   a-star-zero =
       let x = a-star-exactly p 0 in (
-        λ z. let (l, (i, (s, (t, (h, (w, u)))))) = x .0 z in (record { enough = l; inside = i; source = s; target = t; fair = h }, λ k y. w (refused k, y, refl)),
-        λ c. x .1 (c .0 .enough, (c .0 .inside, (c .0 .source, (c .0 .target, (c .0 .fair, (λ y. bad (c .1) (y .1) (y .2), tt)))))),
+        λ z. let (l, (i, (s, (t, (h, (w, u)))))) = x .0 z in (record { enough = l; inside = i; source = s; target = t; fair = h }, λ y k n. w (y, k, n)),
+        λ c. x .1 (c .0 .enough, (c .0 .inside, (c .0 .source, (c .0 .target, (c .0 .fair, (λ y. c .1 (y .0) (y .1) (y .2), tt)))))),
       )
-    where
-      bad : ((k : ℕ) → Ends (star.searchOf q) (ArcOf g) (begin (star.searchOf q)) 0 (refused k) → ⊥) → {y : End ℤ} → Ends (star.searchOf q) (ArcOf g) (begin (star.searchOf q)) 0 y → y .number ≡ 6 → ⊥
-      bad f h z = let k = end-refused h (λ n. other 6 0 z n (λ w. omega arith)) in f (k .0) (subst (λ (y : End ℤ). Ends (star.searchOf q) (ArcOf g) (begin (star.searchOf q)) 0 y) (k .1) h)
 
 -- ---- `floyd_warshall` and `johnson`: long is the test of their lengths
 module _ {S : Type 0} (g : Net ℤ) (lent clear left : S) (before after : List ℤ) (number : ℕ) where
@@ -159,11 +150,11 @@ module _ {C : Type 0} {g : Net C} {b e : hops.Buffers} {number p : ℕ} (a : hop
   pub hops-leaves : (number ≡ 1 → (p ≡ 0) × (e ≡ b)) × (number ≡ 2 → (p ≡ 0) × (e ≡ b))
       × (number ≡ 0 → (p ≡ width g) × Kept (width g * width g) (b .matrix) (e .matrix) × (e ≡ hops.left g b (e .matrix)))
   hops-leaves =
-      let x = given (hops.table g b) (hops.outcomeOf p e) number (hops-follows a) in
+      let x = given (hops.table g b) (hops.resultOf p e) number (hops-follows a) in
       (λ z. told (x 1 z .1), λ z. told (x 2 z .1 .1), λ z. let y = x 0 z .1 .1 .1 in let t = told (y .1) in (t .0, record { long = y .0 .long; rest = y .0 .rest }, t .1))
     where
-      told : {n : ℕ} {c : hops.Buffers} → hops.outcomeOf p e ≡ hops.outcomeOf n c → (p ≡ n) × (e ≡ c)
-      told q = (ap (λ (o : hops.Outcome). o .count) q, ap (λ (o : hops.Outcome). o .buffers) q)
+      told : {n : ℕ} {c : hops.Buffers} → hops.resultOf p e ≡ hops.resultOf n c → (p ≡ n) × (e ≡ c)
+      told q = (ap (λ (o : hops.Result). o .count) q, ap (λ (o : hops.Result). o .buffers) q)
 
   pub hops-zero : (number ≡ 0) ↔ ((hops.enough g b ≡ true) × (insideNet g ≡ true))
   hops-zero = let x = hops-exactly a 0 in (λ z. let (l, (i, s)) = x .0 z in (l, i), λ c. x .1 (c .0, (c .1, tt)))

@@ -5,11 +5,8 @@ use Prim.Native.Nat.{ℕ, _≤_}
 use native.Mathlib.Omega.{arith}
 use lib.Dec.{ltb}
 use borrow.Author.Tests.{ltb-true, ltb-false, le-ltb}
+use Rattle.whole.proofs.Cases.{clash}
 use Rattle.bag.specs.Order.{pick, before, IsOrder}
-
--- a test is not both
-pub contra : {b : Bool} → b ≡ true → b ≡ false → ⊥
-contra p q = true≢false (sym p ∙ q)
 
 module _ {K : Type 0} (lt : K → K → Bool) where
   -- what it is not to stand before, whatever the test of keys is: the other key is no greater, and where the keys tie neither is its index
@@ -46,7 +43,7 @@ module _ {K : Type 0} {lt : K → K → Bool} {ok : K → Type 0} (O : IsOrder l
     where
       go : (t : Bool) → lt a c ≡ t → lt a c ≡ true
       go true g = g
-      go false g = absurd (contra e (O .neg a c b x z y g f))
+      go false g = absurd (clash e (O .neg a c b x z y g f))
 
   -- a < b < c
   pub below-below : (a b c : K) → ok a → ok b → ok c → lt a b ≡ true → lt b c ≡ true → lt a c ≡ true

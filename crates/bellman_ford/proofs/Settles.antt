@@ -10,7 +10,8 @@ use native.Mathlib.Omega.{arith}
 use lib.IntN.{ℤ, pos}
 use lib.Signed.{ltZ, _≤ℤ_, _<ℤ_}
 use Rattle.whole.specs.Zed.{_⊕_, zed, sum, lt-yes, lt-no}
-use Rattle.numbers.specs.Numbers.{here, past, Follows, At, Given, Over}
+use Rattle.numbers.specs.Numbers.{here, past, Follows, At, Given}
+use Rattle.numbers.specs.Over.{Over}
 use Rattle.numbers.proofs.Numbers.{_then_, is-one, follows-one, exactly, given, follows-over, itself}
 use Rattle.clean.specs.Fill.{Settled}
 use Rattle.clean.specs.None.{noneI64}

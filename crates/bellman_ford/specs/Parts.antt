@@ -5,7 +5,7 @@ use mathlib.Core.Bool.{Bool, true, false}
 use Prim.Native.Nat.{ℕ, _≤_, _<_}
 use lib.IntN.{ℤ, pos}
 use lib.ListN.{length, getD}
-use Rattle.numbers.specs.Numbers.{firstNo}
+use Rattle.numbers.specs.Tests.{firstNo}
 use Rattle.walks.specs.Walk.{NoNeg, NegativeFrom, Entry}
 use Rattle.net.specs.Net.{Net, ArcOf, wholeNet, insideNet, has, mostArcsOf}
 use Rattle.rows.specs.Kept.{KeptLists, EnoughLists}

@@ -46,9 +46,6 @@ module _ {A : Type 0} where
   unfolding filled
   filled-same n x l m e = ap (λ (r : List A). replicate n x ++ r) e
 
-  pub filled-over : (n : ℕ) (x y : A) (l : List A) → filled n x (filled n y l) ≡ filled n x l
-  filled-over n x y l = filled-same n x (filled n y l) l (filled-rest n y l)
-
   -- filled, used, and filled again
   pub filled-twice : (n : ℕ) (x : A) (l a b c : List A) → a ≡ filled n x l → drop n b ≡ drop n a → c ≡ filled n x b → c ≡ filled n x l
   filled-twice n x l a b c p q r = r ∙ filled-same n x b l (q ∙ (ap (drop n) p ∙ filled-rest n x l))
@@ -71,14 +68,6 @@ module _ {A : Type 0} {n : ℕ} {E : ℕ → A → Type 0} {before : List A} whe
   -- by the values read with one default
   pub settle : {after : List A} (d : A) → n ≤ length before → length after ≡ length before → ((i : ℕ) → i < n → E i (getD after i d)) → drop n after ≡ drop n before → Settled n E before after
   settle {after} d h l f r = record { long = l; each = λ i e k. subst (E i) (no-default after i d e (omega arith)) (f i k); rest = r }
-
-  -- by one value at every place
-  pub settled-filled : (x : A) → n ≤ length before → ((i : ℕ) → i < n → E i x) → Settled n E before (filled n x before)
-  settled-filled x h f = record {
-    long = filled-length n x before h;
-    each = λ i d k. subst (E i) (sym (filled-at n x d before i k)) (f i k);
-    rest = filled-rest n x before;
-  }
 
   -- by values that another relation allows
   pub settled-over : {F : ℕ → A → Type 0} {after : List A} → ((i : ℕ) → i < n → (x : A) → E i x → F i x) → Settled n E before after → Settled n F before after

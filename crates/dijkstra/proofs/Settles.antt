@@ -8,7 +8,8 @@ use mathlib.Core.Logic.{_⊎_, inl, inr, _↔_}
 use Prim.Native.Nat.{ℕ}
 use lib.IntN.{ℤ, pos}
 use lib.Signed.{_<ℤ_}
-use Rattle.numbers.specs.Numbers.{here, past, Follows, At, Given, Over}
+use Rattle.numbers.specs.Numbers.{here, past, Follows, At, Given}
+use Rattle.numbers.specs.Over.{Over}
 use Rattle.numbers.proofs.Numbers.{_then_, is-one, follows-one, exactly, given, follows-over, itself}
 use Rattle.clean.specs.Fill.{Settled}
 use Rattle.clean.specs.None.{noneI64}

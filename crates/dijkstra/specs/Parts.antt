@@ -6,7 +6,7 @@ use mathlib.Core.List.{List}
 use Prim.Native.Nat.{ℕ, _≤_, _<_}
 use lib.IntN.{ℤ}
 use lib.ListN.{length}
-use Rattle.numbers.specs.Numbers.{firstNo}
+use Rattle.numbers.specs.Tests.{firstNo}
 use Rattle.walks.specs.Costs.{Costs32}
 use Rattle.net.specs.Net.{Net, netOf, wholeNet, insideNet, mostArcs}
 use Rattle.rows.specs.Kept.{KeptLists, EnoughLists}

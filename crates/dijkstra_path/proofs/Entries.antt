@@ -32,27 +32,28 @@ use Rattle.pending.proofs.Floats.{laws64, once-rising64, from-source64}
 use Rattle.pending.proofs.Source.{Both, neither, both}
 use Rattle.pending.proofs.Stored.{good-dist, pred-arc}
 use Rattle.pending.proofs.Once.{indices, Rising, Took, begin-within, begin-once, takes-few}
-use Rattle.pending.proofs.Cutoff64.{source-alone64}
+use Rattle.pending.proofs.Cutoff64.{Ends64, source-alone64}
 use Rattle.dijkstra_path.specs.Promise.{Buffers, longEnough, EndsIn, Promise}
+use Rattle.dijkstra_path.proofs.Literal.{literal-exactly}
 use Rattle.dijkstra_path.proofs.Settles.{promise-given}
 
--- after 0 the entries show an end of the pending bag
+-- after 0 the entries show an end of the pending bag, here with one place per index
 pub record Showing (g : Net FloatCost) (s : ℕ) (k : Cutoff) (e : Buffers) : Type 0 where
   pub end : End ℕ
-  pub ends : EndsIn g s k end
+  pub ends : Ends64 (OpenArcOf g) k s end
   pub number : end .number ≡ 0
   pub limit : g .bound ≤ 1024
   pub inside : insideNet g ≡ true
   pub source : has g s ≡ true
-  pub dist : (v : ℕ) → v < g .bound → getD (e .dist) v noneF64 ≡ shown noneF64 (end .dist v)
-  pub preds : (v : ℕ) → v < g .bound → getD (e .preds) v noneU32 ≡ shown noneU32 (end .pred v)
+  pub dist : (v : ℕ) → v < g .bound → getD (e .memory .dist) v noneF64 ≡ shown noneF64 (end .dist v)
+  pub preds : (v : ℕ) → v < g .bound → getD (e .memory .preds) v noneU32 ≡ shown noneU32 (end .pred v)
 
 pub showing : {g : Net FloatCost} {s : ℕ} {k : Cutoff} {b e : Buffers} {number : ℕ} → Promise g s k b e number → number ≡ 0 → Showing g s k e
 showing {g} {b = b} p z =
     let (l, (i, (h, (w, (t, (x, r, y, a, q)))))) = promise-given p 0 z in
     record {
       end = x;
-      ends = r;
+      ends = literal-exactly .0 r;
       number = y;
       limit = table.whole (g .bound) (g .count) (g .room) (g .marks) (and-left (wholeNet g) (longEnough (g .bound) (mostArcsOf g) b) l) .indices;
       inside = i;
@@ -68,40 +69,40 @@ pub data Paired (m d p : ℕ) : Type 0 where
 
 module _ {g : Net FloatCost} {s : ℕ} {k : Cutoff} {b e : Buffers} {number : ℕ} (promise : Promise g s k b e number) (zero : number ≡ 0) where
   -- the source: +0.0 and no predecessor
-  pub source-entry : (getD (e .dist) s noneF64 ≡ zero64) × (getD (e .preds) s noneU32 ≡ noneU32)
+  pub source-entry : (getD (e .memory .dist) s noneF64 ≡ zero64) × (getD (e .memory .preds) s noneU32 ≡ noneU32)
   source-entry =
       let w = showing promise zero in
-      let f = from-source64 (past k) none s (OpenArcOf g) (w .end) (w .ends .run) (w .number) in
+      let f = from-source64 (past k) none s (OpenArcOf g) (w .end) (w .ends) (w .number) in
       let l = has-below g s (w .source) in
       (w .dist s l ∙ ap (shown noneF64) (f .dist), w .preds s l ∙ ap (shown noneU32) (f .pred))
 
   -- any other index: both or neither
-  pub other-entry : (v : ℕ) → v < g .bound → (v ≡ s → ⊥) → Paired (g .bound) (getD (e .dist) v noneF64) (getD (e .preds) v noneU32)
-  other-entry v l n = go refl refl (from-source64 (past k) none s (OpenArcOf g) (w .end) (w .ends .run) (w .number) .others v n)
+  pub other-entry : (v : ℕ) → v < g .bound → (v ≡ s → ⊥) → Paired (g .bound) (getD (e .memory .dist) v noneF64) (getD (e .memory .preds) v noneU32)
+  other-entry v l n = go refl refl (from-source64 (past k) none s (OpenArcOf g) (w .end) (w .ends) (w .number) .others v n)
     where
       w : Showing g s k e
       w = showing promise zero
 
-      go : {x p : Option ℕ} → w .end .dist v ≡ x → w .end .pred v ≡ p → Both x p → Paired (g .bound) (getD (e .dist) v noneF64) (getD (e .preds) v noneU32)
+      go : {x p : Option ℕ} → w .end .dist v ≡ x → w .end .pred v ≡ p → Both x p → Paired (g .bound) (getD (e .memory .dist) v noneF64) (getD (e .memory .preds) v noneU32)
       go i j neither = missing (w .dist v l ∙ ap (shown noneF64) i) (w .preds v l ∙ ap (shown noneU32) j)
       go i j (both {d} {u}) =
-          let a = pred-arc (search64 (past k) none s) (OpenArcOf g) (w .ends .run) v u j in
+          let a = pred-arc (search64 (past k) none s) (OpenArcOf g) (w .ends) v u j in
           reached
-          (subst Dist64 (sym (w .dist v l ∙ ap (shown noneF64) i)) (good-dist (search64 (past k) none s) (laws64 (past k) none s) (OpenArcOf g) (w .ends .run) v i))
+          (subst Dist64 (sym (w .dist v l ∙ ap (shown noneF64) i)) (good-dist (search64 (past k) none s) (laws64 (past k) none s) (OpenArcOf g) (w .ends) v i))
           (subst (λ (z : ℕ). z < g .bound) (sym (w .preds v l ∙ ap (shown noneU32) j)) (open-below g (w .inside) u v (a .0) (a .1) .0))
 
 -- under a cutoff below zero every other index has none
 pub source-alone : (c : Float) → T (fits binary64 c) → lt c (ofBits binary64 zero64) ≡ true → {g : Net FloatCost} {s : ℕ} {b e : Buffers} {number : ℕ} → Promise g s (At c) b e number → number ≡ 0
-    → (v : ℕ) → v < g .bound → (v ≡ s → ⊥) → (getD (e .dist) v noneF64 ≡ noneF64) × (getD (e .preds) v noneU32 ≡ noneU32)
-source-alone c held below {g} {s} {e = e} promise zero v l n = go refl refl (from-source64 (past (At c)) none s (OpenArcOf g) (w .end) (w .ends .run) (w .number) .others v n)
+    → (v : ℕ) → v < g .bound → (v ≡ s → ⊥) → (getD (e .memory .dist) v noneF64 ≡ noneF64) × (getD (e .memory .preds) v noneU32 ≡ noneU32)
+source-alone c held below {g} {s} {e = e} promise zero v l n = go refl refl (from-source64 (past (At c)) none s (OpenArcOf g) (w .end) (w .ends) (w .number) .others v n)
   where
     w : Showing g s (At c) e
     w = showing promise zero
 
     lone : w .end .dist v ≡ none
-    lone = source-alone64 c held below s (OpenArcOf g) (w .end) (w .ends .run) v n
+    lone = source-alone64 c held below s (OpenArcOf g) (w .end) (w .ends) v n
 
-    go : {x p : Option ℕ} → w .end .dist v ≡ x → w .end .pred v ≡ p → Both x p → (getD (e .dist) v noneF64 ≡ noneF64) × (getD (e .preds) v noneU32 ≡ noneU32)
+    go : {x p : Option ℕ} → w .end .dist v ≡ x → w .end .pred v ≡ p → Both x p → (getD (e .memory .dist) v noneF64 ≡ noneF64) × (getD (e .memory .preds) v noneU32 ≡ noneU32)
     go i j neither = (w .dist v l ∙ ap (shown noneF64) i, w .preds v l ∙ ap (shown noneU32) j)
     go i j both = absurd (let q = sym i ∙ lone in let z : _≡_ {A = ℕ} 0 1 = cc in omega arith)
 
@@ -122,7 +123,7 @@ takes-few64 {g} {s} {k} i h r =
     let L = laws64 (past k) none s in
     let at = present-in g s h in
     takes-few S L (λ d v. refl) plus-grows (OpenArcOf g) (nodesOf g) at (λ u v c a. heads u v c a) (begin-within S (OpenArcOf g) (nodesOf g) at (λ u v c a. heads u v c a))
-    (begin-once S L (λ d v. refl) plus-grows (OpenArcOf g)) (r .run)
+    (begin-once S L (λ d v. refl) plus-grows (OpenArcOf g)) (literal-exactly .0 r)
   where
     heads : (u v c : ℕ) → OpenArcOf g u v c → In v (nodesOf g)
     heads u v c a = present-in g v (open-has g i u v c a .1)

@@ -1,3 +1,4 @@
+pub mod Literal
 pub mod Settles
 pub mod Entries
 pub mod Exact

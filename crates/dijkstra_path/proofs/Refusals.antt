@@ -1,18 +1,18 @@
--- The refusals 1, 2 and 3 as facts.
+-- The refusals 1, 2 and 3 as facts, and what a call that is not refused may rest on.
 -- Assumes nothing.
 use mathlib.Core.Path.{_≡_, refl, sym, ap, _∙_}
 use mathlib.Core.Bool.{Bool, true, false}
-use Prim.Native.Nat.{ℕ, _+_, _≤_}
-use borrow.Author.Tests.{leb-true}
-use lib.Dec.{leb}
-use lib.ListN.{length}
+use Prim.Native.Nat.{ℕ}
 use Rattle.whole.proofs.Cases.{and-left, and-right}
 use Rattle.numbers.proofs.Numbers.{_then_}
 use Rattle.numbers.proofs.Numbers as numbers
 use Rattle.table.specs.Lent.{FloatCost}
 use Rattle.net.specs.Net.{Net, wholeNet, insideNet, has, mostArcsOf}
-use Rattle.turns.specs.Memory.{memoryOf}
+use Rattle.rows.specs.Scratch.{hasLists}
+use Rattle.rows.specs.Kept.{EnoughLists}
+use Rattle.rows.proofs.Kept.{has-lists}
 use Rattle.turns.specs.Firsts.{EnoughMemory}
+use Rattle.search.proofs.Lists.{has-memory}
 use Rattle.dijkstra_path.specs.Promise.{Buffers, longEnough, enough, table, Promise}
 use Rattle.dijkstra_path.specs.Parts.{refusalNo}
 use Rattle.float.specs.declared.Cutoff.{Cutoff}
@@ -50,44 +50,24 @@ module _ (g : Net FloatCost) (s : ℕ) (b : Buffers) where
   unfolding refusalNo
   refused k r q f = record { follows = numbers.refused 3 (table g s k b) b (refl then refl then refl then tt) r q f }
 
-  -- no refusal: every test was passed
-  pub passed : refusalNo g s b ≡ 0 → (enough g b ≡ true) × (insideNet g ≡ true) × (has g s ≡ true)
-  unfolding refusalNo
-  passed q = let w = numbers.passed 3 (table g s None b) (refl then refl then refl then tt) q in (w .0, w .1 .0, w .1 .1 .0)
+-- what a call that is not refused may rest on
+pub record Passed (g : Net FloatCost) (s : ℕ) (b : Buffers) : Type 0 where
+  pub long : enough g b ≡ true
+  pub inside : insideNet g ≡ true
+  pub source : has g s ≡ true
+  pub whole : wholeNet g ≡ true
+  pub rows : EnoughLists (g .bound) (mostArcsOf g) (b .rows)
+  pub memory : EnoughMemory (g .bound) (b .memory)
 
-  -- the buffers are long enough
-  pub record Long : Type 0 where
-    pub offsets : g .bound + 1 ≤ length (b .offsets)
-    pub heads : mostArcsOf g ≤ length (b .heads)
-    pub weights : mostArcsOf g ≤ length (b .weights)
-    pub lists : EnoughMemory (g .bound) (memoryOf (b .dist) (b .preds) (b .peaks) (b .words) (b .keys))
+-- from the tests that passed
+pub enough-passed : (g : Net FloatCost) (s : ℕ) (b : Buffers) → enough g b ≡ true → insideNet g ≡ true → has g s ≡ true → Passed g s b
+unfolding longEnough
+enough-passed g s b e i h =
+    let t = hasLists (g .bound) (mostArcsOf g) (b .rows) in
+    let l = and-right (wholeNet g) _ e in
+    record { long = e; inside = i; source = h; whole = and-left (wholeNet g) _ e; rows = has-lists _ _ _ (and-left t _ l); memory = has-memory _ _ (and-right t _ l) }
 
-  module _ (ok : refusalNo g s b ≡ 0) where
-    pub whole-of : wholeNet g ≡ true
-    whole-of = and-left (wholeNet g) _ (passed ok .0)
-
-    all-long : longEnough (g .bound) (mostArcsOf g) b ≡ true
-    all-long = and-right (wholeNet g) _ (passed ok .0)
-
-    pub long-of : Long
-    unfolding longEnough
-    long-of =
-        let m = g .bound in
-        let e1 = and-right (leb m (length (b .dist))) _ all-long in
-        let e2 = and-right (leb m (length (b .preds))) _ e1 in
-        let e3 = and-right (leb (m + 1) (length (b .offsets))) _ e2 in
-        let e4 = and-right (leb (mostArcsOf g) (length (b .heads))) _ e3 in
-        let e5 = and-right (leb (mostArcsOf g) (length (b .weights))) _ e4 in
-        let e6 = and-right (leb m (length (b .peaks))) _ e5 in
-        record {
-          offsets = leb-true _ _ (and-left (leb (m + 1) (length (b .offsets))) _ e2);
-          heads = leb-true _ _ (and-left (leb (mostArcsOf g) (length (b .heads))) _ e3);
-          weights = leb-true _ _ (and-left (leb (mostArcsOf g) (length (b .weights))) _ e4);
-          lists = record {
-            dist = leb-true _ _ (and-left (leb m (length (b .dist))) _ all-long);
-            preds = leb-true _ _ (and-left (leb m (length (b .preds))) _ e1);
-            peaks = leb-true _ _ (and-left (leb m (length (b .peaks))) _ e5);
-            words = leb-true _ _ (and-left (leb m (length (b .words))) _ e6);
-            keys = leb-true _ _ (and-right (leb m (length (b .words))) _ e6);
-          };
-        }
+-- from the number 0
+pub passed : (g : Net FloatCost) (s : ℕ) (b : Buffers) → refusalNo g s b ≡ 0 → Passed g s b
+unfolding refusalNo
+passed g s b q = let w = numbers.passed 3 (table g s None b) (refl then refl then refl then tt) q in enough-passed g s b (w .0) (w .1 .0) (w .1 .1 .0)

@@ -10,7 +10,8 @@ use mathlib.Core.Option.{none}
 use Prim.Native.Nat.{ℕ}
 use native.Mathlib.Omega.{arith}
 use lib.Ieee.{nan, inf, binary64, ofBits}
-use Rattle.numbers.specs.Numbers.{At, Given, Over}
+use Rattle.numbers.specs.Numbers.{At, Given}
+use Rattle.numbers.specs.Over.{Over}
 use Rattle.numbers.proofs.Numbers.{_then_, is-one, follows-one, exactly, given, follows-over}
 use Rattle.clean.specs.None.{noneF64, noneU32}
 use Rattle.clean.proofs.Filled.{settled-one}
@@ -23,20 +24,23 @@ use Rattle.float.proofs.Past.{past-none, past-nan, past-infinity, past-minus}
 use Rattle.table.specs.Lent.{FloatCost}
 use Rattle.net.specs.Net.{Net, OpenArcOf, SameNet}
 use Rattle.net.proofs.Same.{same-inside, same-size, same-open}
+use Rattle.rows.specs.Rows.{openRows}
 use Rattle.pending.specs.Setting.{End}
 use Rattle.pending.specs.Floats.{search64}
-use Rattle.pending.proofs.Floats.{laws64}
-use Rattle.pending.proofs.One.{begin-ok, ends-one, ends-map}
+use Rattle.pending.proofs.Literal.{literal-one}
+use Rattle.pending.proofs.One.{ends-map}
 use Rattle.pending.proofs.Cutoff64.{same-cutoff64}
 use Rattle.dijkstra_path.specs.Promise.{Buffers, enough, left, blank, EndsIn, Answers, table, Promise}
+use Rattle.dijkstra_path.proofs.Literal.{literal-exactly}
 
 -- ---- two answers that the promise allows are equal
 -- the pending bag ends in one way
 pub one-end : {g : Net FloatCost} {s : ℕ} {k : Cutoff} {x y : End ℕ} → EndsIn g s k x → EndsIn g s k y → x ≡ y
-one-end {g} {s} {k} p q = ends-one (search64 (past k) none s) (laws64 (past k) none s) (OpenArcOf g) (begin-ok (search64 (past k) none s) (laws64 (past k) none s)) (p .run) (q .run)
+one-end {g} {s} {k} p q = literal-one (search64 (past k) none s) (openRows g) (p .run) (q .run)
 
 -- and shows in one way
-pub answers-one : {m : ℕ} {x y : End ℕ} {b e e′ : Buffers} → x ≡ y → Answers m x b e → Answers m y b e′ → (e .dist ≡ e′ .dist) × (e .preds ≡ e′ .preds)
+pub answers-one : {m : ℕ} {x y : End ℕ} {b e e′ : Buffers} → x ≡ y → Answers m x b e → Answers m y b e′
+    → (e .memory .dist ≡ e′ .memory .dist) × (e .memory .preds ≡ e′ .memory .preds)
 answers-one {m} {x} {y} {b} {e} {e′} q p p′ =
     let r : Answers m y b e = subst (λ (z : End ℕ). Answers m z b e) q p in
     (settled-one noneF64 (λ i h u v a c. a ∙ sym c) (r .dist) (p′ .dist), settled-one noneU32 (λ i h u v a c. a ∙ sym c) (r .preds) (p′ .preds))
@@ -75,10 +79,14 @@ module _ {g g′ : Net FloatCost} (same : SameNet g g′) where
   same-blank b = same-left b _ _ ∙ rw (same .bound)
 
   ends-over : {s : ℕ} {k : Cutoff} {x : End ℕ} → EndsIn g s k x → EndsIn g′ s k x
-  ends-over {s} {k} r = record { run = ends-map (search64 (past k) none s) (OpenArcOf g) (OpenArcOf g′) (λ u v c. same-open same u v c .0) (λ u v c. same-open same u v c .1) (r .run) }
+  ends-over {s} {k} r =
+      literal-exactly .1
+      (ends-map (search64 (past k) none s) (OpenArcOf g) (OpenArcOf g′) (λ u v c. same-open same u v c .0) (λ u v c. same-open same u v c .1) (literal-exactly .0 r))
 
   ends-back : {s : ℕ} {k : Cutoff} {x : End ℕ} → EndsIn g′ s k x → EndsIn g s k x
-  ends-back {s} {k} r = record { run = ends-map (search64 (past k) none s) (OpenArcOf g′) (OpenArcOf g) (λ u v c. same-open same u v c .1) (λ u v c. same-open same u v c .0) (r .run) }
+  ends-back {s} {k} r =
+      literal-exactly .1
+      (ends-map (search64 (past k) none s) (OpenArcOf g′) (OpenArcOf g) (λ u v c. same-open same u v c .1) (λ u v c. same-open same u v c .0) (literal-exactly .0 r))
 
   same-table : (s : ℕ) (k : Cutoff) (b : Buffers) → Over (table g s k b) (table g′ s k b)
   same-table s k b =
@@ -86,7 +94,7 @@ module _ {g g′ : Net FloatCost} (same : SameNet g g′) where
       then (refl, same-inside same, λ e q. q)
       then (refl, same .has s, λ e q. q)
       then (refl, (λ x. (x .0, ends-over (x .1), x .2), λ x. (x .0, ends-back (x .1), x .2)), λ e q. q ∙ same-blank b)
-      then (refl, (λ u. u, λ u. u), λ e x. (x .0, ends-over (x .1), x .2, subst (λ (m : ℕ). Answers m (x .0) b e) (same .bound) (x .3), x .4 ∙ same-left b (e .dist) (e .preds)))
+      then (refl, (λ u. u, λ u. u), λ e x. (x .0, ends-over (x .1), x .2, subst (λ (m : ℕ). Answers m (x .0) b e) (same .bound) (x .3), x .4 ∙ same-left b _ _))
       then tt
 
   pub promise-arcs : {s : ℕ} {k : Cutoff} {b e : Buffers} {number : ℕ} → Promise g s k b e number → Promise g′ s k b e number
@@ -94,7 +102,7 @@ module _ {g g′ : Net FloatCost} (same : SameNet g g′) where
 
 -- ---- cutoffs that cut the same distances
 cut-over : (k k′ : Cutoff) → ((x : ℕ) → Dist64 x → past k x ≡ past k′ x) → {g : Net FloatCost} {s : ℕ} {x : End ℕ} → EndsIn g s k x → EndsIn g s k′ x
-cut-over k k′ alike {g} {s} {x} r = record { run = same-cutoff64 k k′ alike s (OpenArcOf g) x (r .run) }
+cut-over k k′ alike {g} {s} {x} r = literal-exactly .1 (same-cutoff64 k k′ alike s (OpenArcOf g) x (literal-exactly .0 r))
 
 pub promise-cut : (k k′ : Cutoff) → ((x : ℕ) → Dist64 x → past k x ≡ past k′ x) → {g : Net FloatCost} {s : ℕ} {b e : Buffers} {number : ℕ} → Promise g s k b e number → Promise g s k′ b e number
 promise-cut k k′ alike {g} {s} {b} {e} {number} p = record { follows = follows-over (table g s k b) (table g s k′ b) e number same-rows (p .follows) }

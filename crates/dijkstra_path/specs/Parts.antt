@@ -2,7 +2,7 @@
 -- Assumes nothing.
 use mathlib.Core.Option.{none}
 use Prim.Native.Nat.{ℕ}
-use Rattle.numbers.specs.Numbers.{firstNo}
+use Rattle.numbers.specs.Tests.{firstNo}
 use Rattle.float.specs.Cutoff.{limitOf}
 use Rattle.float.specs.declared.Cutoff.{Cutoff}
 use Rattle.float.specs.declared.Cutoff.the-variants.{None}

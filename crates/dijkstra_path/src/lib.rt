@@ -2,13 +2,15 @@
 // Distances and keys are lent as patterns, so that the promise settles every bit of them; none is the pattern of -1.0.
 use table::Map;
 ghost use mathlib.Core.Path.{_≡_};
-ghost use Prim.Native.Nat.{ℕ, _+_, _≤_, _<_};
+ghost use Prim.Native.Nat.{_≤_, _<_};
 ghost use lib.ListN.{length};
 ghost use Rattle.clean.specs.Fill.{filled};
 ghost use Rattle.clean.specs.None.{noneF64, noneU32};
 ghost use Rattle.net.specs.Net.{netOf64};
 ghost use Rattle.rows.specs.Rows.{listsOf};
 ghost use Rattle.rows.specs.RowArc.{Sound};
+ghost use Rattle.rows.specs.Kept.{EnoughLists};
+ghost use Rattle.rows.specs.Scratch.{wiped};
 ghost use Rattle.turns.specs.Memory.{memoryOf};
 ghost use Rattle.turns.specs.Firsts.{EnoughMemory};
 ghost use Rattle.dijkstra_path.specs.Promise.{buffersOf, longEnough, Promise};
@@ -33,12 +35,6 @@ fn long_enough(
         (now (peaks .entry)) (now (words .entry)) (now (keys .entry)) in
         ⌜ r ≡ longEnough m a lent ⌝ }
 {
-    if dist.len() < m {
-        return false;
-    }
-    if preds.len() < m {
-        return false;
-    }
     if offsets.len() < m + 1 {
         return false;
     }
@@ -46,6 +42,12 @@ fn long_enough(
         return false;
     }
     if weights.len() < a {
+        return false;
+    }
+    if dist.len() < m {
+        return false;
+    }
+    if preds.len() < m {
         return false;
     }
     if peaks.len() < m {
@@ -163,11 +165,10 @@ fn wipe(
     words: &mut [usize],
     keys: &mut [u64],
 )
-    requires { ⌜ (m ≤ 1024) × (m + 1 ≤ length (now offsets)) × (a ≤ length (now heads)) × (a ≤ length (now weights))
-        × (m ≤ length (now peaks)) × (m ≤ length (now words)) × (m ≤ length (now keys)) ⌝ }
-    ensures { λ _. ⌜ now (offsets .exit) ≡ filled (m + 1) 0 (now (offsets .entry)) ⌝ }
-    ensures { λ _. ⌜ now (heads .exit) ≡ filled a 0 (now (heads .entry)) ⌝ }
-    ensures { λ _. ⌜ now (weights .exit) ≡ filled a 0 (now (weights .entry)) ⌝ }
+    requires { ⌜ EnoughLists m a (listsOf (now offsets) (now heads) (now weights)) ⌝ }
+    requires { ⌜ (m ≤ length (now peaks)) × (m ≤ length (now words)) × (m ≤ length (now keys)) ⌝ }
+    ensures { λ _. ⌜ listsOf (now (offsets .exit)) (now (heads .exit)) (now (weights .exit))
+        ≡ wiped m a 0 (listsOf (now (offsets .entry)) (now (heads .entry)) (now (weights .entry))) ⌝ }
     ensures { λ _. ⌜ now (peaks .exit) ≡ filled m 0 (now (peaks .entry)) ⌝ }
     ensures { λ _. ⌜ now (words .exit) ≡ filled m 0 (now (words .entry)) ⌝ }
     ensures { λ _. ⌜ now (keys .exit) ≡ filled m 0 (now (keys .entry)) ⌝ }

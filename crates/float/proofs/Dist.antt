@@ -1,20 +1,18 @@
 -- The laws of f64 distances. `rank` counts one in units of the format's smallest value, and +infinity is the first number past the finite ones.
--- Their order is that of the ranks, and two with one rank are the same value. A sum of two is again one, is no smaller than either, and grows with each.
+-- Their order is that of the ranks, and two with one rank are the same value. A sum of two is again one, and no smaller than the first.
 -- Assumes nothing.
 use mathlib.Core.Path.{_≡_, refl, sym, ap, _∙_, subst}
-use mathlib.Core.Logic.{_⊎_, inl, inr}
 use Prim.Native.Nat.{ℕ, zero, suc, _+_, _-_, _*_, _/_, _%_, _^_, _≤_, _<_}
 use native.Mathlib.Nat.{le-refl, le-trans, le-of-eq, le-of-lt, le-antisymm, lt-irrefl, lt-of-lt-of-le, lt-of-le-of-lt, lt-of-not-le, zero-mul}
-use native.Mathlib.Nat.{one-mul, mul-one, mul-comm, mul-assoc, mul-left-comm, mul-right-comm, mul-mul-mul-comm, mul-pos, mul-le-mul-right}
-use native.Mathlib.Nat.{mul-lt-mul-of-pos-right, lt-of-mul-lt-mul-right, mul-div-cancel, le-add-right, add-mul, zero-lt-suc, le-of-suc-le-suc, eq-or-lt-of-le}
-use native.Mathlib.Omega.{arith}
+use native.Mathlib.Nat.{one-mul, mul-one, mul-comm, mul-assoc, mul-right-comm, mul-mul-mul-comm, mul-pos, mul-le-mul-right}
+use native.Mathlib.Nat.{mul-lt-mul-of-pos-right, lt-of-mul-lt-mul-right, mul-div-cancel, le-add-right, zero-lt-suc, le-of-suc-le-suc}
 use mathlib.Core.Bool.{Bool, true, false, not, _&&_, _||_, cond, true≢false}
 use lib.IntN.{ℤ, pos, negsuc}
-use lib.Dec.{T, leb, ltb, eqb, leb→le, le→leb, ltb→lt, lt→ltb, nltb→le, eqb→eq, not-T}
+use lib.Dec.{T, leb, ltb, eqb, leb→le, ltb→lt, lt→ltb, nltb→le, eqb→eq, not-T}
 use lib.Pow.{pow-add, pow-pos, pow-lt}
 use lib.Ieee.{Float, nan, inf, fin, Format, prec, emax, low, up, down, size, odd, units, round, sum, add, lt, eq, le, fits, isNan, toBits, ofBits, hid}
 use lib.Ieee.Digits.{back}
-use lib.Ieee.Fits.{and-l, and-r, up-pos, down-pos, round-fits, round-is, add-fits, eq→eqb, inf-fits}
+use lib.Ieee.Fits.{and-l, and-r, up-pos, down-pos, round-fits, round-is, add-fits, eq→eqb}
 use lib.Ieee.Bits.{is-true, is-false, ofBits-toBits}
 use lib.Ieee.Order.{round-mono, drop, kept}
 use lib.Ieee.Nearest.{div-same}
@@ -201,45 +199,6 @@ le-not-lt (fin false m e) (inf false) p q = refl
 le-not-lt (fin false m e) (fin true n d) p q = absurd q
 le-not-lt (fin false m e) (fin false n d) p q = le-split (m * up e * down d) (n * up d * down e)
 
-pub le-rank : (f : Format) (x y : Float) → Dist f x → Dist f y → le x y ≡ leb (rank f x) (rank f y)
-le-rank f x y p q = le-not-lt x y (p .is-clear) (q .is-clear) ∙ ap not (lt-rank f y x q p) ∙ turn (rank f y) (rank f x)
-  where
-    turn : (a b : ℕ) → not (ltb a b) ≡ leb b a
-    turn a b = same-test (not (ltb a b)) (leb b a) (λ t. le→leb b a (nltb→le a b t)) (λ t. not-T (ltb a b) (λ u. lt-irrefl a (lt-of-lt-of-le (ltb→lt a b u) (leb→le b a t))))
-
--- ---- strict total order
-pub lt-none : (f : Format) (x : Float) → Dist f x → lt x x ≡ false
-lt-none f x p = lt-rank f x x p p ∙ sym (ltb-no (rank f x) (rank f x) (le-refl (rank f x)))
-
-by-rank : (f : Format) (x y : Float) → Dist f x → Dist f y → T (lt x y) → rank f x < rank f y
-by-rank f x y p q t = ltb→lt (rank f x) (rank f y) (subst T (lt-rank f x y p q) t)
-
-of-rank : (f : Format) (x y : Float) → Dist f x → Dist f y → rank f x < rank f y → T (lt x y)
-of-rank f x y p q t = subst T (sym (lt-rank f x y p q)) (lt→ltb (rank f x) (rank f y) t)
-
-pub lt-next : (f : Format) (x y z : Float) → Dist f x → Dist f y → Dist f z → T (lt x y) → T (lt y z) → T (lt x z)
-lt-next f x y z p q r h k = of-rank f x z p r (lt-of-lt-of-le (by-rank f x y p q h) (le-of-lt (by-rank f y z q r k)))
-
-three : (a b : ℕ) → (a < b) ⊎ ((a ≡ b) ⊎ (b < a))
-three a b = go (ltb a b) (ltb→lt a b) (nltb→le a b)
-  where
-    go : (t : Bool) → (T t → a < b) → (T (not t) → b ≤ a) → (a < b) ⊎ ((a ≡ b) ⊎ (b < a))
-    go true h k = inl (h tt)
-    go false h k = elim (eq-or-lt-of-le (k tt)) [ inl e ↦ inr (inl (sym e)) | inr l ↦ inr (inr l) ]
-
-pub lt-or : (f : Format) (x y : Float) → Dist f x → Dist f y → T (lt x y) ⊎ ((x ≡ y) ⊎ T (lt y x))
-lt-or f x y p q = go (three (rank f x) (rank f y))
-  where
-    go : (rank f x < rank f y) ⊎ ((rank f x ≡ rank f y) ⊎ (rank f y < rank f x)) → T (lt x y) ⊎ ((x ≡ y) ⊎ T (lt y x))
-    go (inl h) = inl (of-rank f x y p q h)
-    go (inr (inl h)) = inr (inl (rank-inj f x y p q h))
-    go (inr (inr h)) = inr (inr (of-rank f y x q p h))
-
-pub le-next : (f : Format) (x y z : Float) → Dist f x → Dist f y → Dist f z → T (le x y) → T (le y z) → T (le x z)
-le-next f x y z p q r h k =
-    subst T (sym (le-rank f x z p r))
-    (le→leb (rank f x) (rank f z) (le-trans (leb→le (rank f x) (rank f y) (subst T (le-rank f x y p q) h)) (leb→le (rank f y) (rank f z) (subst T (le-rank f y z q r) k))))
-
 -- ---- what is rounded with a clear sign is such a value
 pub odd-clear : (d q k l : ℕ) → T (clear (odd d false q k l))
 unfolding odd
@@ -259,9 +218,6 @@ round-dist f a c = record {
   is-clear = subst (λ (z : Float). T (clear z)) (sym (round-is f false a c)) (units-clear f (kept (prec f) (a * 2 ^ low f) c) (drop (prec f) (a * 2 ^ low f) c));
   is-held = round-fits f false a c;
 }
-
-pub inf-dist : (f : Format) → Dist f (inf false)
-inf-dist f = record { is-clear = tt; is-held = inf-fits f false }
 
 -- ---- a value is what its own fraction rounds to
 rank-same : (f : Format) (m : ℕ) (e : ℤ) (n : ℕ) (d : ℤ) → m * up e * down d ≡ n * up d * down e → rank f (fin false m e) ≡ rank f (fin false n d)
@@ -363,38 +319,6 @@ grows f (num m e) (num n d) p =
 
 pub add-grows : (f : Format) (x w : Float) → Dist f x → T (clear w) → T (le x (add f x w))
 add-grows f x w p q = grows f (shape x (p .is-clear)) (shape w q) (p .is-held)
-
--- X / dx + W / dw ≤ Y / dy + W / dw for X / dx ≤ Y / dy
-wider : (X dx Y dy W dw : ℕ) → X * dy ≤ Y * dx → (X * dw + W * dx) * (dy * dw) ≤ (Y * dw + W * dy) * (dx * dw)
-wider X dx Y dy W dw h =
-    let a : X * dw * (dy * dw) ≤ Y * dw * (dx * dw) = simp (mul-assoc, mul-left-comm) (simp (mul-assoc, mul-comm) at (mul-le-mul-right (dw * dw) h)) in
-    let b : W * dx * (dy * dw) ≡ W * dy * (dx * dw) = simp (mul-assoc, mul-comm, mul-left-comm) in
-    let l = add-mul (X * dw) (W * dx) (dy * dw) in
-    let r = add-mul (Y * dw) (W * dy) (dx * dw) in
-    omega arith
-
-le-cross : (a b : ℕ) → T (ltb a b || (eqb a b && true)) → a ≤ b
-le-cross a b t = nltb→le b a (subst T (le-split a b) t)
-
-mono : (f : Format) {x y w : Float} → Shape x → Shape y → Shape w → T (le x y) → T (le (add f x w) (add f y w))
-mono f top (num n d) s h = unfold le in absurd h
-mono f top top top h = unfold add in le-top (inf false) tt
-mono f top top (num k g) h = unfold add in le-top (inf false) tt
-mono f (num m e) top top h = unfold add in le-top (inf false) tt
-mono f (num m e) top (num k g) h =
-    let t : inf false ≡ add f (inf false) (fin false k g) = unfold add in refl in
-    subst (λ (z : Float). T (le (add f (fin false m e) (fin false k g)) z)) t (le-top (add f (fin false m e) (fin false k g)) (add-clear f (fin false m e) (fin false k g) tt tt))
-mono f (num m e) (num n d) top h = unfold add in le-top (inf false) tt
-mono f (num m e) (num n d) (num k g) h =
-    let c : m * up e * down d ≤ n * up d * down e = unfold le in le-cross (m * up e * down d) (n * up d * down e) h in
-    subst (λ (z : Float). T (le z (add f (fin false n d) (fin false k g)))) (sym (add-fin f m e k g))
-    (subst (λ (z : Float). T (le (round f false (m * up e * down g + k * up g * down e) (down e * down g)) z)) (sym (add-fin f n d k g))
-    (round-mono f (m * up e * down g + k * up g * down e) (down e * down g) (n * up d * down g + k * up g * down d) (down d * down g)
-    (mul-pos (down-pos e) (down-pos g)) (mul-pos (down-pos d) (down-pos g))
-    (wider (m * up e) (down e) (n * up d) (down d) (k * up g) (down g) c)))
-
-pub add-mono : (f : Format) (x y w : Float) → T (clear x) → T (clear y) → T (clear w) → T (le x y) → T (le (add f x w) (add f y w))
-add-mono f x y w p q r h = mono f (shape x p) (shape y q) (shape w r) h
 
 pub no-nan : (x : Float) → T (clear x) → T (not (isNan x))
 unfolding isNan

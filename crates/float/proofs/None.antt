@@ -5,17 +5,10 @@ use mathlib.Core.Bool.{true, false}
 use Prim.Native.Nat.{ℕ}
 use native.Mathlib.Omega.{arith}
 use lib.Dec.{eqb, eqb→eq, not-T}
-use lib.IntN.{pos}
-use lib.Ieee.{fin, binary64, ofBits}
 use lib.Ieee.Bits.{is-false}
 use Rattle.clean.specs.None.{noneF64}
 use Rattle.float.specs.Dist.{Dist64}
 use Rattle.float.proofs.Cost.{dist-low}
-
--- none as a value: minus one
-pub none-is : ofBits binary64 noneF64 ≡ fin true 1 (pos 0)
-unfolding ofBits
-none-is = refl
 
 -- the test at a distance, and at none
 pub dist-not-none : (d : ℕ) → Dist64 d → eqb d noneF64 ≡ false

@@ -47,13 +47,6 @@ lesser-first a b h = go (lesser-is a b)
     go (inl e) = e .0
     go (inr e) = absurd (let l : b <ℤ a = e .1 in omega (arith, zed))
 
-pub lesser-second : (a b : ℤ) → b <ℤ a → lesser a b ≡ b
-lesser-second a b h = go (lesser-is a b)
-  where
-    go : Choice a b → lesser a b ≡ b
-    go (inl e) = absurd (let l : a ≤ℤ b = e .1 in omega (arith, zed))
-    go (inr e) = e .0
-
 module _ (A : ℕ → ℕ → ℤ) where
   -- an entry after one round more
   pub one-more : (k u v : ℕ) → after A (suc k) u v ≡ lesser (after A k u v) (after A k u k ⊕ after A k k v)

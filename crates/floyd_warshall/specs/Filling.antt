@@ -8,7 +8,7 @@ use lib.IntN.{ℤ, pos}
 use lib.ListN.{length, getD, set}
 use lib.Signed.{ltZ}
 use Rattle.whole.specs.Zed.{Cost32}
-use Rattle.numbers.specs.Numbers.{firstNo}
+use Rattle.numbers.specs.Tests.{firstNo}
 use Rattle.clean.specs.None.{noneI64}
 use Rattle.table.specs.Links.{Link}
 use Rattle.walks.specs.Walk.{Negative, Entry}

@@ -18,7 +18,7 @@ use Rattle.net.specs.Net.{Net, netOf, netOf64, mostArcsOf}
 use Rattle.net.proofs.Bounds.{whole-ints, whole-floats}
 use Rattle.rows.specs.Rows.{Ready}
 use Rattle.rows.proofs.Maps.{ready-ints, ready-floats}
-use Rattle.hops.specs.Promise.{Buffers, buffersOf, left, outcomeOf, Promise}
+use Rattle.hops.specs.Promise.{Buffers, buffersOf, left, resultOf, Promise}
 use Rattle.hops.specs.Parts.{refusalNo, netEnds, Ripe, Solved, EnoughScratch, Wiped, Answered}
 use Rattle.hops.proofs.Refusals.{passed, passed-whole, passed-inside, passed-fits}
 use Rattle.hops.proofs.Settles.{SameEnds, ends-back, inside-over, matrix-over}
@@ -67,7 +67,7 @@ module _ {C : Type 0} (m n : ℕ) (d : Bool) (room : ℕ) (marks xs ys : List �
     promised-of : {e : Buffers} {p : ℕ} → Answered (netEnds m n d marks xs ys) b e p → Promise g b e 0 p
     promised-of {e} a =
         let k = passed g b ok in
-        record { follows = past (k .0) (past (k .1) (here tt (refl, (matrix-over (ends-back same-ends) (b .matrix) (e .matrix) (a .matrix), λ i. outcomeOf (a .count i) (a .left i))))) }
+        record { follows = past (k .0) (past (k .1) (here tt (refl, (matrix-over (ends-back same-ends) (b .matrix) (e .matrix) (a .matrix), λ i. resultOf (a .count i) (a .left i))))) }
 
 -- of an integer map
 module _ (m n : ℕ) (d : Bool) (marks xs ys : List ℕ) (cs : List ℤ) (b : Buffers) (ok : refusalNo (netOf m n d marks xs ys cs) b ≡ 0) where

@@ -14,7 +14,7 @@ use Rattle.whole.proofs.Cases.{and-left, and-right}
 use Rattle.numbers.proofs.Numbers as numbers
 use Rattle.net.specs.Net.{Net, rising, wholeNet, insideNet, width, mostArcsOf}
 use Rattle.net.proofs.Nodes.{count-most}
-use Rattle.hops.specs.Promise.{Buffers, longEnough, enough, outcomeOf, table, Promise}
+use Rattle.hops.specs.Promise.{Buffers, longEnough, enough, resultOf, table, Promise}
 use Rattle.hops.specs.Parts.{refusalNo, Fits}
 
 -- the test of the buffers, one after the other
@@ -97,7 +97,7 @@ module _ {C : Type 0} (g : Net C) (b : Buffers) where
   -- a refusal is what the promise says
   pub refused : (r : ℕ) → r ≡ refusalNo g b → (r ≡ 0 → ⊥) → Promise g b b r 0
   unfolding refusalNo
-  refused r q f = record { follows = numbers.refused 2 (table g b) (outcomeOf 0 b) (refl, (refl, tt)) r q f }
+  refused r q f = record { follows = numbers.refused 2 (table g b) (resultOf 0 b) (refl, (refl, tt)) r q f }
 
   -- no refusal: nothing is too short, and the links are inside
   pub passed : refusalNo g b ≡ 0 → (enough g b ≡ true) × (insideNet g ≡ true)

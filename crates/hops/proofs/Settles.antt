@@ -18,7 +18,8 @@ use Rattle.clean.specs.None.{noneU32}
 use Rattle.clean.proofs.Filled.{rest-at}
 use Rattle.whole.specs.Zed.{zed, sum, Within}
 use Rattle.whole.proofs.Cases.{agree}
-use Rattle.numbers.specs.Numbers.{At, Given, Over}
+use Rattle.numbers.specs.Numbers.{At, Given}
+use Rattle.numbers.specs.Over.{Over}
 use Rattle.numbers.proofs.Numbers.{_then_, is-one, follows-one, exactly, given, follows-over}
 use Rattle.table.specs.Links.{zip3}
 use Rattle.table.proofs.Arcs.{inside-arc, ends-leads}
@@ -31,7 +32,7 @@ use Rattle.net.proofs.Same.{leads-has, same-leads}
 use Rattle.net.proofs.Bounds.{Whole, width-small}
 use Rattle.matrix.proofs.Matrix.{place}
 use Rattle.hops.specs.Steps.{Steps, stay, step, LeastSteps, Entry}
-use Rattle.hops.specs.Promise.{Buffers, Matrix, enough, longEnough, left, Outcome, outcomeOf, table, Promise}
+use Rattle.hops.specs.Promise.{Buffers, Matrix, enough, longEnough, left, Result, resultOf, table, Promise}
 use Rattle.hops.proofs.Steps.{entry-one, entry-over, diagonal-zero}
 
 -- ---- two answers that the promise allows are equal
@@ -46,26 +47,26 @@ matrix-one g b x y p q = ext-getD 0 x y (p .long ∙ sym (q .long)) (λ i h. at 
     at i (no f) = rest-at (width g * width g) x y 0 i (p .rest ∙ sym (q .rest)) (omega (arith, f))
 
 -- what is left after 0: one matrix is allowed, and it tells the rest
-abbrev pub After : {C : Type 0} → Net C → Buffers → Outcome → Type 0
-After g b o = Matrix g (b .matrix) (o .buffers .matrix) × (o ≡ outcomeOf (width g) (left g b (o .buffers .matrix)))
+abbrev pub After : {C : Type 0} → Net C → Buffers → Result → Type 0
+After g b o = Matrix g (b .matrix) (o .buffers .matrix) × (o ≡ resultOf (width g) (left g b (o .buffers .matrix)))
 
 module _ {C : Type 0} {g : Net C} {b : Buffers} where
   -- the number, p and every buffer, the outputs and the scratch
   pub promise-one : {e e′ : Buffers} {number number′ p p′ : ℕ} → Promise g b e number p → Promise g b e′ number′ p′ → (number ≡ number′) × (p ≡ p′) × (e ≡ e′)
   promise-one {e} {e′} {number} {number′} {p} {p′} x y =
-      let o = follows-one (table g b) (outcomeOf p e) (outcomeOf p′ e′) number number′ (is-one then is-one then all then tt) (x .follows) (y .follows) in
-      (o .0, ap (λ (z : Outcome). z .count) (o .1), ap (λ (z : Outcome). z .buffers) (o .1))
+      let o = follows-one (table g b) (resultOf p e) (resultOf p′ e′) number number′ (is-one then is-one then all then tt) (x .follows) (y .follows) in
+      (o .0, ap (λ (z : Result). z .count) (o .1), ap (λ (z : Result). z .buffers) (o .1))
     where
-      all : (x y : Outcome) → After g b x → After g b y → x ≡ y
-      all x y p q = p .1 ∙ (ap (λ (z : List ℕ). outcomeOf (width g) (left g b z)) (matrix-one g (b .matrix) _ _ (p .0) (q .0)) ∙ sym (q .1))
+      all : (x y : Result) → After g b x → After g b y → x ≡ y
+      all x y p q = p .1 ∙ (ap (λ (z : List ℕ). resultOf (width g) (left g b z)) (matrix-one g (b .matrix) _ _ (p .0) (q .0)) ∙ sym (q .1))
 
   module _ {e : Buffers} {number p : ℕ} (a : Promise g b e number p) where
     -- ---- each number exactly when its row is reached, and what is then left
     pub promise-exactly : (k : ℕ) → (number ≡ k) ↔ At k (table g b)
-    promise-exactly = exactly (table g b) (outcomeOf p e) number (a .follows)
+    promise-exactly = exactly (table g b) (resultOf p e) number (a .follows)
 
-    pub promise-given : (k : ℕ) → number ≡ k → Given k (table g b) (outcomeOf p e)
-    promise-given = given (table g b) (outcomeOf p e) number (a .follows)
+    pub promise-given : (k : ℕ) → number ≡ k → Given k (table g b) (resultOf p e)
+    promise-given = given (table g b) (resultOf p e) number (a .follows)
 
 -- ---- the diagonal is 0, and a map without nodes leaves the outputs as they were
 pub diagonal : {C : Type 0} (g : Net C) (b x : List ℕ) → Matrix g b x → (i : ℕ) → i < width g → getD x (i * width g + i) 0 ≡ 0
@@ -78,8 +79,8 @@ written-none (y ∷ l) r e = absurd (omega arith)
 pub no-nodes : {C : Type 0} {g : Net C} {b e : Buffers} {p : ℕ} → Promise g b e 0 p → width g ≡ 0 → (p ≡ 0) × (e .nodes ≡ b .nodes) × (e .matrix ≡ b .matrix)
 no-nodes {g = g} {b = b} {e = e} a z =
     let (l, (i, (t, x))) = promise-given a 0 refl in (
-      ap (λ (o : Outcome). o .count) (x .1) ∙ z,
-      ap (λ (o : Outcome). o .buffers .nodes) (x .1) ∙ written-none (nodesOf g) (b .nodes) z,
+      ap (λ (o : Result). o .count) (x .1) ∙ z,
+      ap (λ (o : Result). o .buffers .nodes) (x .1) ∙ written-none (nodesOf g) (b .nodes) z,
       subst (λ (w : ℕ). drop (w * w) (e .matrix) ≡ drop (w * w) (b .matrix)) z (x .0 .rest),
     )
 
@@ -177,14 +178,14 @@ module _ {C D : Type 0} {g : Net C} {g′ : Net D} (s : SameEnds g g′) where
 
     -- maps of different kinds with the same ends, both long enough or both not, have one promise
     pub promise-ends : {b e : Buffers} {number p : ℕ} → Promise g b e number p → Promise g′ b e number p
-    promise-ends {b} {e} {number} {p} a = record { follows = follows-over (table g b) (table g′ b) (outcomeOf p e) number rows (a .follows) }
+    promise-ends {b} {e} {number} {p} a = record { follows = follows-over (table g b) (table g′ b) (resultOf p e) number rows (a .follows) }
       where
         -- row by row
         rows : Over (table g b) (table g′ b)
         rows =
             (refl, same-enough b, λ o q. q)
             then (refl, same-inside, λ o q. q)
-            then (refl, (λ u. u, λ u. u), λ o q. (matrix-over (b .matrix) (o .buffers .matrix) (q .0), q .1 ∙ (λ i. outcomeOf (length (same-nodes i)) (same-left b (o .buffers .matrix) i))))
+            then (refl, (λ u. u, λ u. u), λ o q. (matrix-over (b .matrix) (o .buffers .matrix) (q .0), q .1 ∙ (λ i. resultOf (length (same-nodes i)) (same-left b (o .buffers .matrix) i))))
             then tt
 
     -- two calls on such maps, with the same buffers, answer the same and leave the same

@@ -57,26 +57,26 @@ left g b x = record {
   queue = filled (g .bound + 1) 0 (b .queue);
 }
 
--- what a call gives beside the number: how many nodes are listed, and the buffers that it leaves
-pub record Outcome : Type 0 where
+-- what a call leaves: how many nodes are listed, returned beside the number, and the buffers
+pub record Result : Type 0 where
   pub count : ℕ
   pub buffers : Buffers
 
--- such an outcome from its parts
-abbrev pub outcomeOf : ℕ → Buffers → Outcome
-outcomeOf p e = record { count = p; buffers = e }
+-- the same, of its parts
+abbrev pub resultOf : ℕ → Buffers → Result
+resultOf p e = record { count = p; buffers = e }
 
--- the table: the outcome is o, of the map g and the buffers b that it was lent
-abbrev pub table : {C : Type 0} → Net C → Buffers → List (Row Outcome)
+-- the table: what the call leaves is y, of the map g and the buffers b that it was lent
+abbrev pub table : {C : Type 0} → Net C → Buffers → List (Row Result)
 table g b =
     -- 1: a limit is passed, or a lent slice is shorter than its part used; untouched, and the count 0
-    row 1 (fails (enough g b)) (λ o. o ≡ outcomeOf 0 b)
+    row 1 (fails (enough g b)) (λ y. y ≡ resultOf 0 b)
     -- 2: a link names an index at or above m, or absent; untouched, and the count 0
-    ∷ row 2 (fails (insideNet g)) (λ o. o ≡ outcomeOf 0 b)
+    ∷ row 2 (fails (insideNet g)) (λ y. y ≡ resultOf 0 b)
     -- 0: the p nodes and the matrix of hops
-    ∷ done (λ o. Matrix g (b .matrix) (o .buffers .matrix) × (o ≡ outcomeOf (width g) (left g b (o .buffers .matrix))))
+    ∷ done (λ y. Matrix g (b .matrix) (y .buffers .matrix) × (y ≡ resultOf (width g) (left g b (y .buffers .matrix))))
     ∷ []
 
 -- the `number`, the length `p` of the node list and the buffers `e` that the call leaves are those of the first row that holds
 pub record Promise {C : Type 0} (g : Net C) (b e : Buffers) (number p : ℕ) : Type 0 where
-  pub follows : Follows (table g b) (outcomeOf p e) number
+  pub follows : Follows (table g b) (resultOf p e) number

@@ -8,7 +8,7 @@ use lib.IntN.{ℤ, pos}
 use lib.Signed.{ltZ, _≤ℤ_}
 use lib.ListN.{length, getD}
 use Rattle.whole.specs.Zed.{P, Within}
-use Rattle.numbers.specs.Numbers.{firstNo}
+use Rattle.numbers.specs.Tests.{firstNo}
 use Rattle.clean.specs.None.{noneI64}
 use Rattle.table.specs.Links.{present}
 use Rattle.walks.specs.Walk.{Negative, Total}

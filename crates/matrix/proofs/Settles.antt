@@ -9,7 +9,9 @@ use native.Mathlib.Omega.{arith}
 use lib.IntN.{ℤ, pos}
 use lib.Signed.{_<ℤ_}
 use Rattle.whole.specs.Zed.{_⊕_, zed, sum}
-use Rattle.numbers.specs.Numbers.{here, past, Follows, At, Given, Over, firstNo}
+use Rattle.numbers.specs.Numbers.{here, past, Follows, At, Given}
+use Rattle.numbers.specs.Over.{Over}
+use Rattle.numbers.specs.Tests.{firstNo}
 use Rattle.numbers.proofs.Numbers.{_then_, is-one, follows-one, exactly, given, follows-over, behind, itself}
 use Rattle.numbers.proofs.Numbers as numbers
 use Rattle.numbers.proofs.Beside.{beside, alike}

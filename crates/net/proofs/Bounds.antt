@@ -28,11 +28,6 @@ unfolding mostArcs
 most-arcs-most true n = omega arith
 most-arcs-most false n = omega arith
 
-pub most-arcs-least : (d : Bool) (n : ℕ) → n ≤ mostArcs d n
-unfolding mostArcs
-most-arcs-least true n = omega arith
-most-arcs-least false n = omega arith
-
 module _ {C : Type 0} {g : Net C} (w : Whole g) where
   pub size-most : mostArcsOf g ≤ 16384
   size-most = omega (arith, most-arcs-most (g .directed) (g .count), w .links)

@@ -1,6 +1,6 @@
 -- The arcs of a map that is inside, and maps that no question can tell apart.
 -- Assumes nothing.
-use mathlib.Core.Path.{_≡_, refl, sym, ap, _∙_}
+use mathlib.Core.Path.{_≡_, sym, ap, _∙_}
 use mathlib.Core.Bool.{Bool, true, false}
 use mathlib.Core.List.{List, [], _∷_}
 use mathlib.Core.Logic.{inl, inr, ⊎-elim, _↔_}
@@ -44,10 +44,7 @@ module _ (g : Net FloatCost) (e : insideNet g ≡ true) where
   pub open-below : (u v x : ℕ) → OpenArcOf g u v x → (u < g .bound) × (v < g .bound)
   open-below u v x w = arc-below g e u v _ w
 
--- a map is the same as itself, and the same both ways
-pub same-self : {C : Type 0} (g : Net C) → SameNet g g
-same-self g = record { bound = refl; count = refl; directed = refl; has = λ i. refl; whole = refl; arcs = λ u v c. (λ w. w, λ w. w) }
-
+-- the same both ways
 pub same-back : {C : Type 0} {g g′ : Net C} → SameNet g g′ → SameNet g′ g
 same-back s =
     record { bound = sym (s .bound); count = sym (s .count); directed = sym (s .directed); has = λ i. sym (s .has i); whole = sym (s .whole); arcs = λ u v c. (s .arcs u v c .1, s .arcs u v c .0) }

@@ -4,7 +4,8 @@
 use mathlib.Core.Path.{_≡_, sym, _∙_, subst}
 use mathlib.Core.List.{List, [], _∷_}
 use Prim.Native.Nat.{ℕ}
-use Rattle.numbers.specs.Numbers.{Not, Row, here, past, Follows, SameWhen}
+use Rattle.numbers.specs.Numbers.{Not, Row, here, past, Follows}
+use Rattle.numbers.specs.Over.{SameWhen}
 use Rattle.numbers.proofs.Numbers.{not-both, is-over, not-over}
 
 -- a row of two tables side by side: the same number, the same condition, what is left, and the rows behind it

@@ -12,8 +12,9 @@ use Prim.Native.Nat.{ℕ, zero, suc}
 use lib.Dec.{eqb}
 use borrow.Author.Tests.{eqb-true, eqb-false}
 use Rattle.whole.proofs.Cases.{clash, and-left, and-right, not-t}
-use Rattle.numbers.specs.Numbers.{When, fails, holds, Is, Not, Row, Step, here, past, Follows, OneOf, fresh, atRow, At, Given, Settles, SameWhen, Over}
-use Rattle.numbers.specs.Numbers.{ifFails, firstNo, AtTest, Leaves, Numbered, Passing}
+use Rattle.numbers.specs.Numbers.{When, fails, holds, Is, Not, Row, Step, here, past, Follows, OneOf, fresh, atRow, At, Given}
+use Rattle.numbers.specs.Over.{Settles, SameWhen, Over}
+use Rattle.numbers.specs.Tests.{ifFails, firstNo, AtTest, Leaves, Numbered, Passing}
 
 -- a condition does not hold and fail
 pub not-both : (w : When) → Is w → Not w → ⊥

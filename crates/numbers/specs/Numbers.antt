@@ -1,10 +1,10 @@
 -- A question's promise as the table of numbers that 01 gives: row by row a number, when it is given, and what the call then leaves.
 -- Assumes nothing.
 use mathlib.Core.Path.{_≡_}
-use mathlib.Core.Bool.{Bool, true, false, not, _&&_, cond}
+use mathlib.Core.Bool.{Bool, true, false, not, _&&_}
 use mathlib.Core.List.{List, [], _∷_}
-use mathlib.Core.Logic.{_⊎_, _↔_}
-use Prim.Native.Nat.{ℕ, zero, suc}
+use mathlib.Core.Logic.{_⊎_}
+use Prim.Native.Nat.{ℕ}
 use lib.Dec.{eqb}
 
 -- when a row is given: a test of the inputs fails, or a condition on them holds
@@ -73,61 +73,3 @@ At k (r ∷ rs) = atRow (eqb k (r .number)) (fresh k rs) (Is (r .when)) (Not (r 
 abbrev pub Given : {E : Type 0} → ℕ → List (Row E) → E → Type 0
 Given k [] e = ⊥
 Given k (r ∷ rs) e = atRow (eqb k (r .number)) (fresh k rs) (Is (r .when) × r .leaves e) (Not (r .when) × Given k rs e)
-
--- each row settles what is left
-abbrev pub Settles : {E : Type 0} → List (Row E) → Type 0
-Settles [] = Unit
-Settles {E} (r ∷ rs) = ((e e′ : E) → r .leaves e → r .leaves e′ → e ≡ e′) × Settles rs
-
--- the same condition
-abbrev pub SameWhen : When → When → Type 0
-SameWhen (fails b) (fails b′) = b ≡ b′
-SameWhen (fails b) (holds C) = ⊥
-SameWhen (holds C) (fails b) = ⊥
-SameWhen (holds C) (holds C′) = C ↔ C′
-
--- the same number, the same condition, and what the first leaves the second allows
-abbrev pub SameRow : {E : Type 0} → Row E → Row E → Type 0
-SameRow {E} r r′ = (r .number ≡ r′ .number) × SameWhen (r .when) (r′ .when) × ((e : E) → r .leaves e → r′ .leaves e)
-
--- row by row
-abbrev pub Over : {E : Type 0} → List (Row E) → List (Row E) → Type 0
-Over [] [] = Unit
-Over [] (r ∷ rs) = ⊥
-Over (r ∷ rs) [] = ⊥
-Over (r ∷ rs) (r′ ∷ rs′) = SameRow r r′ × Over rs rs′
-
--- ---- the tests in front: the first j rows
--- k where the test fails, else n
-abbrev pub ifFails : When → ℕ → ℕ → ℕ
-ifFails (fails b) k n = cond b n k
-ifFails (holds C) k n = 0
-
--- the number of the first that fails, else 0
-abbrev pub firstNo : {E : Type 0} → ℕ → List (Row E) → ℕ
-firstNo zero rs = 0
-firstNo (suc j) [] = 0
-firstNo (suc j) (r ∷ rs) = ifFails (r .when) (r .number) (firstNo j rs)
-
--- at a test both, at no test neither
-abbrev pub AtTest : When → Type 0 → Type 0 → Type 0
-AtTest (fails b) A B = A × B
-AtTest (holds C) A B = Unit
-
--- they leave b
-abbrev pub Leaves : {E : Type 0} → ℕ → List (Row E) → E → Type 0
-Leaves zero rs b = Unit
-Leaves (suc j) [] b = Unit
-Leaves (suc j) (r ∷ rs) b = AtTest (r .when) (r .leaves b) (Leaves j rs b)
-
--- none of them is numbered 0
-abbrev pub Numbered : {E : Type 0} → ℕ → List (Row E) → Type 0
-Numbered zero rs = Unit
-Numbered (suc j) [] = Unit
-Numbered (suc j) (r ∷ rs) = AtTest (r .when) (eqb (r .number) 0 ≡ false) (Numbered j rs)
-
--- all hold
-abbrev pub Passing : {E : Type 0} → ℕ → List (Row E) → Type 0
-Passing zero rs = Unit
-Passing (suc j) [] = Unit
-Passing (suc j) (r ∷ rs) = AtTest (r .when) (Not (r .when)) (Passing j rs)

@@ -9,7 +9,8 @@ use mathlib.Core.Logic.{_↔_}
 use Prim.Native.Nat.{ℕ, _<_}
 use lib.IntN.{ℤ}
 use Rattle.whole.proofs.Cases.{clash}
-use Rattle.numbers.specs.Numbers.{here, past, Follows, At, Given, Over}
+use Rattle.numbers.specs.Numbers.{here, past, Follows, At, Given}
+use Rattle.numbers.specs.Over.{Over}
 use Rattle.numbers.proofs.Numbers.{_then_, is-one, follows-one, exactly, given, follows-over, itself}
 use Rattle.net.specs.Net.{Net, ArcOf, insideNet, has, SameNet}
 use Rattle.net.proofs.Same.{same-back, same-inside, arc-has}

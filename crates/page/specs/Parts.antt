@@ -7,7 +7,7 @@ use Prim.Native.Nat.{ℕ, _+_, _≤_, _<_}
 use lib.IntN.{ℤ}
 use lib.Signed.{_<ℤ_}
 use lib.ListN.{length, getD, set}
-use Rattle.numbers.specs.Numbers.{firstNo}
+use Rattle.numbers.specs.Tests.{firstNo}
 use Rattle.whole.specs.Zed.{_⊕_}
 use Rattle.clean.specs.None.{noneI64}
 use Rattle.table.specs.Links.{links, Arc}

@@ -2,13 +2,11 @@
 -- `a-star-bag`: where nothing is refused with 1 to 5, the bag over the rows of the map ends in some x, and the number, the cost, the length and the path are what x
 -- says. `dijkstra-path-bag`: where nothing is refused with 1 to 3, the bag over the open rows ends in some x, the number is x's, and after 0 the distances and the
 -- predecessors are x's. The bag has one end (pending, `literal-one`).
--- The argument: the promises speak of the bag with one place per index, which ends as 01's bag does (pending, Same), and the arcs of the map are the members of its
--- rows.
+-- The argument: the promises speak of 01's bag themselves.
 -- Assumes nothing.
 use mathlib.Core.Path.{_≡_, sym, _∙_}
 use mathlib.Core.Bool.{true}
 use mathlib.Core.List.{List}
-use mathlib.Core.Logic.{_↔_}
 use mathlib.Core.Option.{none}
 use Prim.Native.Nat.{ℕ}
 use native.Mathlib.Omega.{arith}
@@ -19,40 +17,22 @@ use Rattle.numbers.proofs.Numbers.{_then_, behind, follows-behind}
 use Rattle.float.specs.Cutoff.{past}
 use Rattle.float.specs.declared.Cutoff.{Cutoff}
 use Rattle.table.specs.Lent.{FloatCost}
-use Rattle.net.specs.Net.{Net, linksOf, ArcOf, OpenArcOf, insideNet, has, mostArcsOf}
-use Rattle.rows.specs.Rows.{openLinks, rowsOf, openRows}
-use Rattle.rows.proofs.Maps.{open-arcs}
-use Rattle.rows.proofs.Members.{arcs-rows}
+use Rattle.net.specs.Net.{Net, ArcOf, insideNet, has}
+use Rattle.rows.specs.Rows.{rowsOf, openRows}
 use Rattle.pending.specs.Setting.{End}
-use Rattle.pending.specs.Setting as Set
 use Rattle.pending.specs.Literal as Lit
-use Rattle.pending.specs.OnePlace.{begin, Ends}
 use Rattle.pending.specs.Floats.{search64}
-use Rattle.pending.proofs.Floats.{laws64}
-use Rattle.pending.proofs.Same.{literal-ends}
 use Rattle.a_star.specs.Promise as star
-use Rattle.a_star.proofs.Literal.{literal-exactly}
 use Rattle.a_star.proofs.Settles.{outcome-of}
 use Rattle.dijkstra_path.specs.Promise as search
 
 -- ---- `a_star`
 pub a-star-bag : {g : Net ℤ} {q : star.Question} {b e : star.Buffers} {r : star.Answer} → star.Promise g q b e r → star.Fine g q b →
-    (x : End ℤ) × (l : List ℕ) × Lit.Ends (star.searchOf q) (rowsOf g) (Lit.start (star.searchOf q)) x × star.Says (ArcOf g) q x r l × (e ≡ star.left (g .bound) (mostArcsOf g) b l)
-a-star-bag {g} {q} p w = let o = outcome-of p w in (o .end, o .path, literal-exactly g q (o .end) .0 (o .ends), o .says, o .leaves)
+    (x : End ℤ) × Lit.Ends (star.searchOf q) (rowsOf g) (Lit.start (star.searchOf q)) x × (r .number ≡ x .number)
+    × (d : ℤ) × (l : List ℕ) × star.Says (ArcOf g) q x d l × (star.resultOf r e ≡ star.withPath g b d l)
+a-star-bag p w = let (o, n) = outcome-of p w in (o .end, o .ends, n, o .cost, o .path, o .says, o .leaves)
 
 -- ---- `dijkstra_path_impl`, `dijkstra_path_f64`
-pub dijkstra-path-literal : (g : Net FloatCost) (s : ℕ) (k : Cutoff) (x : End ℕ) → search.EndsIn g s k x ↔ Lit.Ends (search64 (past k) none s) (openRows g) (Lit.start (search64 (past k) none s)) x
-dijkstra-path-literal g s k x = (λ r. same .0 (r .run), λ r. record { run = same .1 r })
-  where
-    open-rows : (u v c : ℕ) → OpenArcOf g u v c ↔ Set.ArcOf (openRows g) u v c
-    open-rows u v c =
-        let o = open-arcs (g .directed) (linksOf g) u v c in
-        let a = arcs-rows (g .directed) (openLinks (linksOf g)) u v c in
-        (λ y. a .0 (o .1 y), λ y. o .0 (a .1 y))
-
-    same : Ends (search64 (past k) none s) (OpenArcOf g) (begin (search64 (past k) none s)) 0 x ↔ Lit.Ends (search64 (past k) none s) (openRows g) (Lit.start (search64 (past k) none s)) x
-    same = literal-ends (search64 (past k) none s) (laws64 (past k) none s) (OpenArcOf g) (openRows g) open-rows x
-
 pub dijkstra-path-bag : {g : Net FloatCost} {s : ℕ} {k : Cutoff} {b e : search.Buffers} {number : ℕ} → search.Promise g s k b e number → search.enough g b ≡ true → insideNet g ≡ true → has g s ≡ true
     →
     (x : End ℕ) × Lit.Ends (search64 (past k) none s) (openRows g) (Lit.start (search64 (past k) none s)) x × (number ≡ x .number) × (number ≡ 0 → search.Answers (g .bound) x b e)
@@ -60,6 +40,6 @@ dijkstra-path-bag {g} {s} {k} {b} {e} {number} p l i h = go (follows-behind 3 (s
   where
     go : rows.Follows (behind 3 (search.table g s k b)) e number →
         (x : End ℕ) × Lit.Ends (search64 (past k) none s) (openRows g) (Lit.start (search64 (past k) none s)) x × (number ≡ x .number) × (number ≡ 0 → search.Answers (g .bound) x b e)
-    go (rows.here x y) = (x .0, dijkstra-path-literal g s k (x .0) .0 (x .1), y .0 ∙ sym (x .2), λ n. other 6 0 (y .0) n (λ c. omega arith))
-    go (rows.past w (rows.here t y)) = let (x, r, z, a, q) = y .1 in (x, dijkstra-path-literal g s k x .0 r, y .0 ∙ sym z, λ n. a)
+    go (rows.here x y) = (x .0, x .1 .run, y .0 ∙ sym (x .2), λ n. other 6 0 (y .0) n (λ c. omega arith))
+    go (rows.past w (rows.here t y)) = let (x, r, z, a, q) = y .1 in (x, r .run, y .0 ∙ sym z, λ n. a)
     go (rows.past w (rows.past t y)) = absurd y

@@ -7,7 +7,7 @@
 -- and every buffer.
 -- The argument: what holds of every table of numbers is proved once (numbers, Numbers); a question shows row by row that what is left is settled.
 -- Assumes nothing.
-use mathlib.Core.Path.{_≡_, sym, _∙_}
+use mathlib.Core.Path.{_≡_, sym, _∙_, ap}
 use mathlib.Core.Bool.{Bool}
 use mathlib.Core.List.{List}
 use mathlib.Core.Logic.{⊎-elim, _↔_}
@@ -20,7 +20,7 @@ use Rattle.numbers.proofs.Numbers.{one-of, exactly}
 use Rattle.float.specs.declared.Cutoff.{Cutoff}
 use Rattle.table.specs.Links.{Link}
 use Rattle.table.specs.Lent.{FloatCost, RawCost, Ints, putInts, Floats, putFloats}
-use Rattle.net.specs.Net.{Net, width, mostArcsOf}
+use Rattle.net.specs.Net.{Net, width}
 use Rattle.matrix.specs.Matrix.{buffersOf}
 use Rattle.table.specs.Promise.{intsTable, floatsTable}
 use Rattle.table.proofs.Numbers as table
@@ -135,8 +135,11 @@ module _ {g : Net ℤ} {q : star.Question} {b e : star.Buffers} {r : star.Answer
   a-star-settled p′ = star-laws.promise-one p p′
 
   -- after 0 the path has at most p indices, and its length is given
-  pub a-star-length : r .number ≡ 0 → (l : List ℕ) × (length l ≤ width g) × (r .length ≡ length l) × (e ≡ star.left (g .bound) (mostArcsOf g) b l)
-  a-star-length z = ⊎-elim (λ x. absurd (omega (arith, z, x .0))) (λ x. let k = star-gives.path-few (x .0) (x .1) in (x .1 .path, k .0, k .1, x .1 .leaves)) (star-laws.cases p)
+  pub a-star-length : r .number ≡ 0 → (l : List ℕ) × (length l ≤ width g) × (r .length ≡ length l) × (e ≡ star.left g b l)
+  a-star-length z = ⊎-elim (λ x. absurd (omega (arith, z, x .0))) (λ x. found (x .0) (x .1 .0)) (star-laws.cases p)
+    where
+      found : star.Fine g q b → (o : star.Outcome g q b (star.resultOf r e)) → (l : List ℕ) × (length l ≤ width g) × (r .length ≡ length l) × (e ≡ star.left g b l)
+      found w o = let k = star-gives.path-few w o in (o .path, k .0, k .1, ap (λ (y : star.Result). y .buffers) (o .leaves))
 
 -- ---- `floyd_warshall`: its promise is the table
 module _ {g : Net ℤ} {m m′ : List ℤ} {r r′ : List ℕ} {number : ℕ} (p : floyd.Promise g m r m′ r′ number) where
@@ -168,11 +171,11 @@ module _ {g : Net ℤ} {m m′ : List ℤ} {s s′ : johnson.Scratch} {number : 
 
 -- ---- `hops` and `hops_f64`: C is the kind of cost; their promise is the table
 module _ {C : Type 0} {g : Net C} {b e : hops.Buffers} {number p : ℕ} (a : hops.Promise g b e number p) where
-  pub hops-follows : Follows (hops.table g b) (hops.outcomeOf p e) number
+  pub hops-follows : Follows (hops.table g b) (hops.resultOf p e) number
   hops-follows = a .follows
 
   pub hops-numbers : OneOf (hops.table g b) number
-  hops-numbers = one-of (hops.table g b) (hops.outcomeOf p e) number (a .follows)
+  hops-numbers = one-of (hops.table g b) (hops.resultOf p e) number (a .follows)
 
   pub hops-exactly : (k : ℕ) → (number ≡ k) ↔ At k (hops.table g b)
   hops-exactly = hops-laws.promise-exactly a

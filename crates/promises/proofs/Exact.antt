@@ -102,7 +102,8 @@ same-number {d} (some z) e q t =
 
 -- ---- the exact case
 module _ {g : Net ℤ} {h : Net FloatCost} {s : ℕ} {b e : dijkstra.Buffers} {b′ e′ : search.Buffers} {number number′ : ℕ} (k : Converted g h) where
-  pub exact-case : dijkstra.Promise g s b e number → search.Promise h s None b′ e′ number′ → (number ≡ 1 → ⊥) → (number′ ≡ 1 → ⊥) → Agrees (g .bound) (e .dist) (e′ .dist) number number′
+  pub exact-case : dijkstra.Promise g s b e number → search.Promise h s None b′ e′ number′ → (number ≡ 1 → ⊥) → (number′ ≡ 1 → ⊥)
+      → Agrees (g .bound) (e .dist) (e′ .memory .dist) number number′
   exact-case p r f f′ = let n = both (p .follows) (r .follows) in record { number = n .0; distances = λ z v m. each (sym (n .0) ∙ z) (n .1 z .each v (pos 0) m) m }
     where
       inside : insideNet g ≡ insideNet h
@@ -125,15 +126,16 @@ module _ {g : Net ℤ} {h : Net FloatCost} {s : ℕ} {b e : dijkstra.Buffers} {b
           (λ w w′. alike refl itself (λ x y p q z. p .0) (λ t t′. tt)))))
           x y
 
-      each : {v : ℕ} → number′ ≡ 0 → Entry (ArcOf g) s v (getD (e .dist) v (pos 0)) → v < g .bound → SameNumber (getD (e .dist) v (pos 0)) (getD (e′ .dist) v noneF64)
+      each : {v : ℕ} → number′ ≡ 0 → Entry (ArcOf g) s v (getD (e .dist) v (pos 0)) → v < g .bound → SameNumber (getD (e .dist) v (pos 0)) (getD (e′ .memory .dist) v noneF64)
       each {v} z t m =
           let y = search-exact.exact-entry g (to k) (from k) r z v (subst (λ (j : ℕ). v < j) (k .bound) m) (total-of t) in
           same-number (y .0) (y .1) (y .2) t
 
   -- a cutoff that is NaN or +infinity cuts nothing
-  pub exact-nan : dijkstra.Promise g s b e number → search.Promise h s (At nan) b′ e′ number′ → (number ≡ 1 → ⊥) → (number′ ≡ 1 → ⊥) → Agrees (g .bound) (e .dist) (e′ .dist) number number′
+  pub exact-nan : dijkstra.Promise g s b e number → search.Promise h s (At nan) b′ e′ number′ → (number ≡ 1 → ⊥) → (number′ ≡ 1 → ⊥)
+      → Agrees (g .bound) (e .dist) (e′ .memory .dist) number number′
   exact-nan p r f f′ = exact-case p (cutoff-nan .0 r) f f′
 
   pub exact-infinity : dijkstra.Promise g s b e number → search.Promise h s (At (inf false)) b′ e′ number′ → (number ≡ 1 → ⊥) → (number′ ≡ 1 → ⊥)
-      → Agrees (g .bound) (e .dist) (e′ .dist) number number′
+      → Agrees (g .bound) (e .dist) (e′ .memory .dist) number number′
   exact-infinity p r f f′ = exact-case p (cutoff-infinity .0 r) f f′

@@ -46,6 +46,7 @@ use Rattle.hops.proofs.Settles as hops-laws
 use Rattle.hops.proofs.Steps as hops-steps
 use Rattle.hops.proofs.Refusals as hops-refusals
 use Rattle.dijkstra_path.specs.Promise as search
+use Rattle.dijkstra_path.proofs.Refusals as search-refusals
 use Rattle.dijkstra_path.proofs.Settles as search-laws
 use Rattle.promises.specs.Used.{LeaveSame, ran, refused, rowsUsed, dijkstraUsed, dijkstraPathUsed, bellmanUsed, aStarUsed, pairsUsed, johnsonUsed, hopsUsed}
 
@@ -185,58 +186,45 @@ module _ (g : Net ℤ) (s : ℕ) (b b′ : bellman.Buffers) where
   bellman-ford-memory {e} {e′} {number} {number′} long p q = beside BellmanLeave (bellman.table g s b) (bellman.table g s b′) e e′ number number′ (bellman-rows long) (p .follows) (q .follows)
 
 -- ---- `dijkstra_path_impl` and `dijkstra_path_f64`
--- the outputs are long enough
-path-long : (g : Net FloatCost) (b : search.Buffers) → search.enough g b ≡ true → (g .bound ≤ length (b .dist)) × (g .bound ≤ length (b .preds))
-unfolding search.longEnough
-path-long g b w =
-    let l = and-right (wholeNet g) _ w in
-    (leb-true _ _ (and-left (leb (g .bound) (length (b .dist))) _ l), leb-true _ _ (and-left (leb (g .bound) (length (b .preds))) _ (and-right (leb (g .bound) (length (b .dist))) _ l)))
-
 module _ (g : Net FloatCost) (s : ℕ) (k : Cutoff) (b b′ : search.Buffers) where
-  path-left : (e e′ : search.Buffers) → take (g .bound) (e .dist) ≡ take (g .bound) (e′ .dist) → take (g .bound) (e .preds) ≡ take (g .bound) (e′ .preds)
-      → e ≡ search.left g b (e .dist) (e .preds) → e′ ≡ search.left g b′ (e′ .dist) (e′ .preds) → dijkstraPathUsed (g .bound) (mostArcsOf g) e ≡ dijkstraPathUsed (g .bound) (mostArcsOf g) e′
-  path-left e e′ d r p q =
+  path-left : (x y x′ y′ : List ℕ) → take (g .bound) x ≡ take (g .bound) x′ → take (g .bound) y ≡ take (g .bound) y′
+      → dijkstraPathUsed (g .bound) (mostArcsOf g) (search.left g b x y) ≡ dijkstraPathUsed (g .bound) (mostArcsOf g) (search.left g b′ x′ y′)
+  path-left x y x′ y′ d p =
       let m = g .bound in
-      let a = mostArcsOf g in
-      let o = part-filled (m + 1) 0 (b .offsets) (b′ .offsets) in
-      let h = part-filled a 0 (b .heads) (b′ .heads) in
-      let w = part-filled a 0 (b .weights) (b′ .weights) in
-      let keys : take m (search.left g b (e .dist) (e .preds) .keys) ≡ take m (search.left g b′ (e′ .dist) (e′ .preds) .keys) = part-filled m _ (b .keys) (b′ .keys) in
-      ap (dijkstraPathUsed (g .bound) (mostArcsOf g)) p
-      ∙ ((λ i. search.buffersOf (d i) (r i) (o i) (h i) (w i) (part-filled m 0 (b .peaks) (b′ .peaks) i) (part-filled m 0 (b .words) (b′ .words) i) (keys i))
-      ∙ sym (ap (dijkstraPathUsed (g .bound) (mostArcsOf g)) q))
+      let M = b .memory in
+      let N = b′ .memory in
+      let o = rows-wiped g 0 (b .rows) (b′ .rows) in
+      λ i. (o i, memoryOf (d i) (p i) (part-filled m 0 (M .peaks) (N .peaks) i) (part-filled m 0 (M .words) (N .words) i) (part-filled m 0 (M .keys) (N .keys) i))
 
-  path-answers : search.enough g b ≡ true → search.enough g b′ ≡ true → {x y : End ℕ} {e e′ : search.Buffers} → x ≡ y → search.Answers (g .bound) x b e → search.Answers (g .bound) y b′ e′
-      → e ≡ search.left g b (e .dist) (e .preds) → e′ ≡ search.left g b′ (e′ .dist) (e′ .preds) → dijkstraPathUsed (g .bound) (mostArcsOf g) e ≡ dijkstraPathUsed (g .bound) (mostArcsOf g) e′
-  path-answers w w′ {e = e} {e′} same a a′ p q =
-      let l = path-long g b w in
-      let l′ = path-long g b′ w′ in
+  path-answers : search-refusals.Passed g s b → search-refusals.Passed g s b′ → {x y : End ℕ} {e e′ : search.Buffers} → x ≡ y → search.Answers (g .bound) x b e → search.Answers (g .bound) y b′ e′
+      → e ≡ search.left g b (e .memory .dist) (e .memory .preds) → e′ ≡ search.left g b′ (e′ .memory .dist) (e′ .memory .preds)
+      → dijkstraPathUsed (g .bound) (mostArcsOf g) e ≡ dijkstraPathUsed (g .bound) (mostArcsOf g) e′
+  path-answers w w′ {e = e} same a a′ p q =
       let r = subst (λ (z : End _). search.Answers (g .bound) z b e) same a in
-      let dist = part-settled noneF64 (λ i h u v a c. a ∙ sym c) (l .0) (l′ .0) (r .dist) (a′ .dist) in
-      let preds = part-settled noneU32 (λ i h u v a c. a ∙ sym c) (l .1) (l′ .1) (r .preds) (a′ .preds) in
-      path-left e e′ dist preds p q
+      let dist = part-settled noneF64 (λ i h u v a c. a ∙ sym c) (w .memory .dist) (w′ .memory .dist) (r .dist) (a′ .dist) in
+      let preds = part-settled noneU32 (λ i h u v a c. a ∙ sym c) (w .memory .preds) (w′ .memory .preds) (r .preds) (a′ .preds) in
+      through (dijkstraPathUsed (g .bound) (mostArcsOf g)) p q (path-left _ _ _ _ dist preds)
 
   path-blank : dijkstraPathUsed (g .bound) (mostArcsOf g) (search.blank g b) ≡ dijkstraPathUsed (g .bound) (mostArcsOf g) (search.blank g b′)
-  path-blank =
-      let dist : take (g .bound) (search.blank g b .dist) ≡ take (g .bound) (search.blank g b′ .dist) = part-filled (g .bound) _ (b .dist) (b′ .dist) in
-      path-left (search.blank g b) (search.blank g b′) dist (part-filled (g .bound) noneU32 (b .preds) (b′ .preds)) refl refl
+  path-blank = path-left _ _ _ _ (part-filled (g .bound) noneF64 (b .memory .dist) (b′ .memory .dist)) (part-filled (g .bound) noneU32 (b .memory .preds) (b′ .memory .preds))
 
   pub dijkstra-path-memory : {e e′ : search.Buffers} {number number′ : ℕ} → search.enough g b ≡ search.enough g b′ → search.Promise g s k b e number → search.Promise g s k b′ e′ number′
       → (number ≡ number′) × LeaveSame (dijkstraPathUsed (g .bound) (mostArcsOf g)) number b b′ e e′
   dijkstra-path-memory {e} {e′} {number} {number′} long p q =
       let used = dijkstraPathUsed (g .bound) (mostArcsOf g) in
+      let passed = search-refusals.enough-passed g s in
       beside (λ (n : ℕ) (x y : search.Buffers). LeaveSame used n b b′ x y) (search.table g s k b) (search.table g s k b′) e e′ number number′
       (alike refl long (untouched refl)
       (λ w w′. alike refl refl (untouched refl)
       (λ i i′. alike refl refl (untouched refl)
       (λ h h′. alike refl itself (λ x y p q. ran (inr (inl refl)) (through used p q path-blank))
-      (λ z z′. alike refl itself (λ x y p q. ran (inl refl) (path-answers w w′ (search-laws.one-end (p .1) (q .1)) (p .3) (q .3) (p .4) (q .4)))
+      (λ z z′. alike refl itself (λ x y p q. ran (inl refl) (path-answers (passed b w i h) (passed b′ w′ i h) (search-laws.one-end (p .1) (q .1)) (p .3) (q .3) (p .4) (q .4)))
       (λ u u′. tt))))))
       (p .follows) (q .follows)
 
 -- ---- `a_star`
 module _ (g : Net ℤ) (q : star.Question) (b b′ : star.Buffers) where
-  star-left : (l : List ℕ) → aStarUsed (g .bound) (mostArcsOf g) (star.left (g .bound) (mostArcsOf g) b l) ≡ aStarUsed (g .bound) (mostArcsOf g) (star.left (g .bound) (mostArcsOf g) b′ l)
+  star-left : (l : List ℕ) → aStarUsed (g .bound) (mostArcsOf g) (star.left g b l) ≡ aStarUsed (g .bound) (mostArcsOf g) (star.left g b′ l)
   unfolding star.atFront filled
   star-left l =
       let m = g .bound in
@@ -257,7 +245,7 @@ module _ (g : Net ℤ) (q : star.Question) (b b′ : star.Buffers) where
   pub a-star-memory : {e e′ : star.Buffers} {r r′ : star.Answer} → star.enough g q b ≡ star.enough g q b′ → star.Promise g q b e r → star.Promise g q b′ e′ r′
       → (r ≡ r′) × LeaveSame (aStarUsed (g .bound) (mostArcsOf g)) (r .number) b b′ e e′
   a-star-memory {e} {e′} {r} {r′} long p p′ =
-      let blank : star.Buffers → star.Buffers = λ x. star.left (g .bound) (mostArcsOf g) x [] in
+      let blank : star.Buffers → star.Buffers = λ x. star.left g x [] in
       let k = beside StarSame (star.table g q b) (star.table g q b′) (star.resultOf r e) (star.resultOf r′ e′) (r .number) (r′ .number)
       (alike refl long (star-refused 1 refl)
       (λ w w′. alike refl refl (star-refused 2 refl)
@@ -269,12 +257,15 @@ module _ (g : Net ℤ) (q : star.Question) (b b′ : star.Buffers) where
       (p .follows) (p′ .follows) in
       (λ i. star.answerOf (k .0 i) (k .1 .0 i) (k .1 .1 i), k .1 .2)
     where
-      star-ran : (y y′ : star.Result) → star-laws.Ran g q b (y .buffers) (star.answerOf 0 (y .cost) (y .length))
-          → star-laws.Ran g q b′ (y′ .buffers) (star.answerOf 0 (y′ .cost) (y′ .length)) → StarSame 0 y y′
+      star-ran : (y y′ : star.Result) → star.Outcome g q b y → star.Outcome g q b′ y′ → StarSame 0 y y′
       star-ran y y′ o u =
           let k = star-laws.outcome-path o u in
-          let path = star-left (o .path) ∙ ap (λ (l : List ℕ). aStarUsed (g .bound) (mostArcsOf g) (star.left (g .bound) (mostArcsOf g) b′ l)) (k .1) in
-          (ap (λ (r : star.Answer). r .cost) (k .0), ap (λ (r : star.Answer). r .length) (k .0), ran (inl refl) (through (aStarUsed (g .bound) (mostArcsOf g)) (o .leaves) (u .leaves) path))
+          let path = star-left (o .path) ∙ ap (λ (l : List ℕ). aStarUsed (g .bound) (mostArcsOf g) (star.left g b′ l)) (k .1) in
+          let buffers : star.Result → star.Buffers = λ y. y .buffers in (
+            ap (λ (y : star.Result). y .cost) (o .leaves) ∙ (k .0 ∙ sym (ap (λ (y : star.Result). y .cost) (u .leaves))),
+            ap (λ (y : star.Result). y .length) (o .leaves) ∙ (ap length (k .1) ∙ sym (ap (λ (y : star.Result). y .length) (u .leaves))),
+            ran (inl refl) (through (aStarUsed (g .bound) (mostArcsOf g)) (ap buffers (o .leaves)) (ap buffers (u .leaves)) path),
+          )
 
 -- ---- `floyd_warshall` and `johnson`
 -- two matrices of least totals hold the same in the part used
@@ -335,11 +326,11 @@ johnson-memory g m m′ s s′ e p q = pairs-memory g (johnsonUsed (g .bound) (m
 
 -- ---- `hops` and `hops_f64`
 -- the parts of an outcome that is told
-counted : {o : hops.Outcome} {n : ℕ} {c : hops.Buffers} → o ≡ hops.outcomeOf n c → o .count ≡ n
-counted a = ap (λ (o : hops.Outcome). o .count) a
+counted : {o : hops.Result} {n : ℕ} {c : hops.Buffers} → o ≡ hops.resultOf n c → o .count ≡ n
+counted a = ap (λ (o : hops.Result). o .count) a
 
-buffers-of : {o : hops.Outcome} {n : ℕ} {c : hops.Buffers} → o ≡ hops.outcomeOf n c → o .buffers ≡ c
-buffers-of a = ap (λ (o : hops.Outcome). o .buffers) a
+buffers-of : {o : hops.Result} {n : ℕ} {c : hops.Buffers} → o ≡ hops.resultOf n c → o .buffers ≡ c
+buffers-of a = ap (λ (o : hops.Result). o .buffers) a
 
 module _ {C : Type 0} (g : Net C) (b b′ : hops.Buffers) where
   hops-part : (x y : List ℕ) → width g * width g ≤ length (b .matrix) → width g * width g ≤ length (b′ .matrix) → hops.Matrix g (b .matrix) x → hops.Matrix g (b′ .matrix) y
@@ -356,13 +347,13 @@ module _ {C : Type 0} (g : Net C) (b b′ : hops.Buffers) where
       λ i. (n i, h i, o i, k i, part-filled m 0 (b .labels) (b′ .labels) i, part-filled (m + 1) 0 (b .queue) (b′ .queue) i)
 
   -- what two calls give and leave
-  abbrev HopsSame : ℕ → hops.Outcome → hops.Outcome → Type 0
+  abbrev HopsSame : ℕ → hops.Result → hops.Result → Type 0
   HopsSame k o u = (o .count ≡ u .count) × LeaveSame (hopsUsed (g .bound) (mostArcsOf g) (width g)) k b b′ (o .buffers) (u .buffers)
 
-  hops-refused : {k : ℕ} → 1 ≤ k → k ≤ 5 → (o u : hops.Outcome) → o ≡ hops.outcomeOf 0 b → u ≡ hops.outcomeOf 0 b′ → HopsSame k o u
+  hops-refused : {k : ℕ} → 1 ≤ k → k ≤ 5 → (o u : hops.Result) → o ≡ hops.resultOf 0 b → u ≡ hops.resultOf 0 b′ → HopsSame k o u
   hops-refused l h o u a c = (counted a ∙ sym (counted c), refused l h (buffers-of a) (buffers-of c))
 
-  hops-after : hops.enough g b ≡ true → hops.enough g b′ ≡ true → (o u : hops.Outcome) → hops-laws.After g b o → hops-laws.After g b′ u → HopsSame 0 o u
+  hops-after : hops.enough g b ≡ true → hops.enough g b′ ≡ true → (o u : hops.Result) → hops-laws.After g b o → hops-laws.After g b′ u → HopsSame 0 o u
   hops-after w w′ o u a c =
       let l = hops-refusals.fits-of (g .bound) (mostArcsOf g) (width g) b (and-right (wholeNet g) _ w) in
       let l′ = hops-refusals.fits-of (g .bound) (mostArcsOf g) (width g) b′ (and-right (wholeNet g) _ w′) in
@@ -373,7 +364,7 @@ module _ {C : Type 0} (g : Net C) (b b′ : hops.Buffers) where
   pub hops-memory : {e e′ : hops.Buffers} {number number′ p p′ : ℕ} → hops.enough g b ≡ hops.enough g b′ → hops.Promise g b e number p → hops.Promise g b′ e′ number′ p′
       → (number ≡ number′) × (p ≡ p′) × LeaveSame (hopsUsed (g .bound) (mostArcsOf g) (width g)) number b b′ e e′
   hops-memory {e} {e′} {number} {number′} {p} {p′} long x y =
-      let z = beside HopsSame (hops.table g b) (hops.table g b′) (hops.outcomeOf p e) (hops.outcomeOf p′ e′) number number′
+      let z = beside HopsSame (hops.table g b) (hops.table g b′) (hops.resultOf p e) (hops.resultOf p′ e′) number number′
       (alike refl long (hops-refused (omega arith) (omega arith))
       (λ w w′. alike refl refl (hops-refused (omega arith) (omega arith))
       (λ i i′. alike refl itself (hops-after w w′) (λ u u′. tt))))
@@ -394,7 +385,7 @@ rows-lengths : {W : Type 0} (m a : ℕ) (s t : Lists W) → RowsAsLong s t → h
 unfolding hasLists
 rows-lengths m a s t e = λ i. leb (m + 1) (e .0 i) && (leb a (e .1 i) && leb a (e .2 i))
 
-memory-lengths : (m : ℕ) (M N : Memory ℤ) → MemoryAsLong M N → hasMemory m M ≡ hasMemory m N
+memory-lengths : {K : Type 0} (m : ℕ) (M N : Memory K) → MemoryAsLong M N → hasMemory m M ≡ hasMemory m N
 unfolding hasMemory
 memory-lengths m M N e = λ i. leb m (e .0 i) && (leb m (e .1 i) && (leb m (e .2 i) && (leb m (e .3 i) && leb m (e .4 i))))
 
@@ -418,13 +409,9 @@ bellman-ford-lengths g b c d r q k l =
     let m = g .bound in
     λ i. wholeNet g && (rows-lengths m (mostArcsOf g) (b .scratch .rows) (c .scratch .rows) r i && (leb m (d i) && (leb m (q i) && (leb m (k i) && leb m (l i)))))
 
-pub dijkstra-path-lengths : (g : Net FloatCost) (b c : search.Buffers) → RowsAsLong (listsOf (b .offsets) (b .heads) (b .weights)) (listsOf (c .offsets) (c .heads) (c .weights))
-    → MemoryAsLong (memoryOf (b .dist) (b .preds) (b .peaks) (b .words) (b .keys)) (memoryOf (c .dist) (c .preds) (c .peaks) (c .words) (c .keys)) → search.enough g b ≡ search.enough g c
+pub dijkstra-path-lengths : (g : Net FloatCost) (b c : search.Buffers) → RowsAsLong (b .rows) (c .rows) → MemoryAsLong (b .memory) (c .memory) → search.enough g b ≡ search.enough g c
 unfolding search.longEnough
-dijkstra-path-lengths g b c r e =
-    let m = g .bound in
-    let a = mostArcsOf g in
-    λ i. wholeNet g && (leb m (e .0 i) && (leb m (e .1 i) && (leb (m + 1) (r .0 i) && (leb a (r .1 i) && (leb a (r .2 i) && (leb m (e .2 i) && (leb m (e .3 i) && leb m (e .4 i))))))))
+dijkstra-path-lengths g b c r e = λ i. wholeNet g && (rows-lengths (g .bound) (mostArcsOf g) (b .rows) (c .rows) r i && memory-lengths (g .bound) (b .memory) (c .memory) e i)
 
 pub floyd-warshall-lengths : (g : Net ℤ) (m m′ : List ℤ) (r r′ : List ℕ) → AsLong m m′ → AsLong r r′ → floyd.enough g m r ≡ floyd.enough g m′ r′
 unfolding floyd.enough

@@ -139,7 +139,7 @@ hops-scratch g whole nodes matrix n d = (
 pub dijkstra-path-scratch : (g : Net FloatCost) → wholeNet g ≡ true → (dist preds : List ℕ) → g .bound ≤ length dist → g .bound ≤ length preds
     → (o : List ℕ) × (h : List ℕ) × (w : List ℕ) × (q : List ℕ) × (i : List ℕ) × (k : List ℕ) × (search.enough g (search.buffersOf dist preds o h w q i k) ≡ true)
     × (length o + length h + length w + length q + length i + length k ≤ 8 * (g .bound + 1) + 4 * mostArcsOf g)
-unfolding search.longEnough
+unfolding search.longEnough hasLists hasMemory
 dijkstra-path-scratch g whole dist preds d p = (
   zeros (g .bound + 1),
   zeros (mostArcsOf g),

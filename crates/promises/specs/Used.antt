@@ -32,11 +32,9 @@ module _ (m a : ℕ) where
   abbrev pub dijkstraUsed : dijkstra.Buffers → Lists ℤ × Memory ℤ
   dijkstraUsed b = (rowsUsed (b .scratch .rows), firsts m (dijkstra.memory b))
 
-  -- m distances and m predecessors, and m of each list of the search
-  abbrev pub dijkstraPathUsed : search.Buffers → search.Buffers
-  dijkstraPathUsed b =
-      search.buffersOf (take m (b .dist)) (take m (b .preds)) (take (m + 1) (b .offsets)) (take a (b .heads)) (take a (b .weights))
-      (take m (b .peaks)) (take m (b .words)) (take m (b .keys))
+  -- m distances and m predecessors, and m of each other list of the search
+  abbrev pub dijkstraPathUsed : search.Buffers → Lists ℕ × Memory ℕ
+  dijkstraPathUsed b = (rowsUsed (b .rows), firsts m (b .memory))
 
   -- m distances, and m of the ring, its marks and the path lengths
   abbrev pub bellmanUsed : bellman.Buffers → List ℤ × Lists ℤ × List ℕ × List ℕ × List ℕ

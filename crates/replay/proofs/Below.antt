@@ -1,8 +1,8 @@
 -- Signed numbers that fit their width: -1 less a number of 63 bits, and what lies between the ends of 32 bits.
 -- Assumes nothing.
-use mathlib.Core.Path.{_≡_, refl, ap, _∙_}
+use mathlib.Core.Path.{_≡_, ap, _∙_}
 use mathlib.Core.Bool.{true}
-use Prim.Native.Nat.{ℕ, zero, suc, _<_}
+use Prim.Native.Nat.{ℕ, _<_}
 use native.Mathlib.Omega.{arith}
 use lib.IntN.{ℤ, pos, negsuc, _-ℤ_}
 use lib.Signed.{leZ}
@@ -10,11 +10,7 @@ use mir.Val.{toZ, SFits}
 use mir.ValLaws.{toZ-pos}
 use mir.Syntax.{w32, w64}
 use Rattle.whole.specs.Zed.{zed}
-
--- -1 less k
-under : (k : ℕ) → negsuc 0 -ℤ pos k ≡ negsuc k
-under zero = refl
-under (suc k) = ap (λ (n : ℕ). negsuc (suc n)) (omega arith)
+use Rattle.whole.proofs.Signed.{under}
 
 -- it fits 64 bits
 pub below-fits : (k : ℕ) → k < 9223372036854775808 → SFits w64 (negsuc 0 -ℤ toZ w64 k)

@@ -43,12 +43,6 @@ module _ {C : Type 0} {m : ℕ} {s₀ nb : Lists C} where
     pub rising : (u : ℕ) → u < m → getD (nb .offsets) u 0 ≤ getD (nb .offsets) (u + 1) 0
     rising u h = omega (arith, r .start u (omega arith), r .start (u + 1) (omega arith), start-next u)
 
-    -- the part of a row is the heads of the arcs that leave its index
-    pub row-part : (u : ℕ) → u < m → take (getD (nb .offsets) (u + 1) 0 - getD (nb .offsets) u 0) (drop (getD (nb .offsets) u 0) (nb .heads)) ≡ map (λ (x : Link C). x .b) (row u A)
-    row-part u h =
-        ap (λ (i : ℕ). take (i - getD (nb .offsets) u 0) (drop (getD (nb .offsets) u 0) (nb .heads))) (r .start (u + 1) (omega arith) ∙ ap (starts A) (add-one u))
-        ∙ (ap (λ (i : ℕ). take (starts A (suc u) - i) (drop i (nb .heads))) (r .start u (omega arith)) ∙ r .heads u h)
-
     -- a row lies in the lists
     pub rows-inside : EnoughFor A m s₀ → (u : ℕ) → u < m → (getD (nb .offsets) (u + 1) 0 ≤ length (nb .heads)) × (getD (nb .offsets) (u + 1) 0 ≤ length (nb .weights))
     rows-inside w u h =

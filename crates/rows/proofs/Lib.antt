@@ -7,7 +7,6 @@ pub mod Ended
 pub mod Segments
 pub mod Listing
 pub mod Members
-pub mod Pairs
 pub mod Graph
 pub mod Kept
 pub mod One

@@ -178,9 +178,3 @@ module _ {C : Type 0} (m n : ℕ) (d : Bool) (marks xs ys : List ℕ) (cs : List
     λ a. ends-out d u v xs ys cs n h (arc-of d (take n (ends xs ys)) r u v tt a),
     λ w. row-of d (take n (ends xs ys)) r u v tt (below u v w .0) (ends-in d u v xs ys cs n w),
   )
-
-  pub leads-sound : m ≤ 1024 → EnoughFor (arcsEnds d n xs ys) m s₀ → Sound m nb
-  leads-sound q w = sound d (take n (ends xs ys)) r q w (λ u v c a. below u v (ends-out d u v xs ys cs n h a) .1)
-
-  pub leads-kept : KeptLists m (mostArcs d n) s₀ nb
-  leads-kept = rows-kept (links-room d n (ends xs ys)) r

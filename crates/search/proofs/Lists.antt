@@ -14,12 +14,12 @@ use Rattle.turns.specs.Firsts.{EnoughMemory, KeptMemory}
 use Rattle.search.specs.Lists.{hasMemory, wipedMemory}
 
 -- the last test decides
-pub memory-last : (m : ℕ) (M : Memory ℤ) → m ≤ length (M .dist) → m ≤ length (M .preds) → m ≤ length (M .peaks) → m ≤ length (M .words) → leb m (length (M .keys)) ≡ hasMemory m M
+pub memory-last : {K : Type 0} (m : ℕ) (M : Memory K) → m ≤ length (M .dist) → m ≤ length (M .preds) → m ≤ length (M .peaks) → m ≤ length (M .words) → leb m (length (M .keys)) ≡ hasMemory m M
 unfolding hasMemory
 memory-last m M d p h i = rw (le-leb m (length (M .dist)) d, le-leb m (length (M .preds)) p, le-leb m (length (M .peaks)) h, le-leb m (length (M .words)) i)
 
 -- the lists are long enough
-pub has-memory : (m : ℕ) (M : Memory ℤ) → hasMemory m M ≡ true → EnoughMemory m M
+pub has-memory : {K : Type 0} (m : ℕ) (M : Memory K) → hasMemory m M ≡ true → EnoughMemory m M
 unfolding hasMemory
 has-memory m M e =
     let e1 = and-right (leb m (length (M .dist))) _ e in

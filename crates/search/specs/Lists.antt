@@ -9,7 +9,7 @@ use Rattle.clean.specs.Fill.{filled}
 use Rattle.turns.specs.Memory.{Memory, memoryOf}
 
 -- do the lists of the search have m entries each?
-unfoldable pub hasMemory : ℕ → Memory ℤ → Bool
+unfoldable pub hasMemory : {K : Type 0} → ℕ → Memory K → Bool
 hasMemory m M =
     leb m (length (M .dist))
     && (leb m (length (M .preds))

@@ -1,14 +1,14 @@
 -- Arcs of a list of links: place by place, their ends, and what is left of them where costs are not looked at.
 -- Assumes nothing.
 use mathlib.Core.Path.{_≡_, refl, sym, _∙_}
-use mathlib.Core.Bool.{Bool, true, false, _&&_}
+use mathlib.Core.Bool.{Bool, true}
 use mathlib.Core.List.{List, [], _∷_}
 use mathlib.Core.Logic.{_⊎_, inl, inr, ⊎-elim, _↔_}
 use Prim.Native.Nat.{ℕ, zero, suc, _≤_, _<_}
 use native.Mathlib.Nat.{not-suc-le-zero, le-of-suc-le-suc}
 use lib.ListN.{length, getD, take}
+use Rattle.whole.proofs.Cases.{and-left, and-right, both-of, agree}
 use Rattle.table.specs.Links.{Link, zip3, ends, joins, present, presentBoth, inside, allInside, Arc, Leads}
-use Rattle.table.proofs.Laws.{and-left, and-right}
 use Rattle.table.proofs.Joins.{joined, joins-of}
 
 module _ {C : Type 0} (d : Bool) where
@@ -35,9 +35,6 @@ module _ {C : Type 0} (d : Bool) where
   arc-out (l ∷ ls) o (suc i) u v c (inl x) = inl (inl x)
   arc-out (l ∷ ls) o (suc i) u v c (inr x) = ⊎-elim (λ y. inl (inr y)) (λ y. inr y) (arc-out ls o i u v c x)
 
-both-of : (x y : Bool) → x ≡ true → y ≡ true → (x && y) ≡ true
-both-of x y p q = rw (p, q)
-
 -- links that are inside have arcs whose ends are present, and the other way round
 module _ {C : Type 0} (d : Bool) (m : ℕ) (marks : List ℕ) where
   pub arc-inside : (ls : List (Link C)) → allInside m marks ls ≡ true → (u v : ℕ) (c : C) → Arc d ls u v c → (present m marks u ≡ true) × (present m marks v ≡ true)
@@ -56,12 +53,6 @@ module _ {C : Type 0} (d : Bool) (m : ℕ) (marks : List ℕ) where
   inside-arc (l ∷ ls) f =
       let k = f (l .a) (l .b) (l .cost) (inl (joins-of d (l .a) (l .b) l (inl (refl, refl)), refl)) in
       both-of _ _ (both-of _ _ (k .0) (k .1)) (inside-arc ls (λ u v c w. f u v c (inr w)))
-
-agree : (x y : Bool) → (x ≡ true → y ≡ true) → (y ≡ true → x ≡ true) → x ≡ y
-agree true true f g = refl
-agree true false f g = sym (f refl)
-agree false true f g = g refl
-agree false false f g = refl
 
 -- the same arcs and the same presence: refusal 2 for both tables or for none
 pub same-inside : {C : Type 0} (d d′ : Bool) (m m′ : ℕ) (marks marks′ : List ℕ) (ls ks : List (Link C)) → ((i : ℕ) → present m marks i ≡ present m′ marks′ i)

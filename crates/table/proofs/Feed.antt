@@ -11,6 +11,7 @@ use mathlib.Core.Option.{Option, none, some}
 use Prim.Native.Nat.{ℕ, suc, _≤_}
 use lib.ListN.{length}
 use native.Mathlib.Omega.{arith}
+use Rattle.whole.proofs.Cases.{or-no}
 use Rattle.table.specs.Links.{Link, linkOf, joins, Arc}
 use Rattle.table.specs.Feeds.{names, lasts, Single}
 use Rattle.table.proofs.Tables.{putList, costOf, lastCost, feedInto, Within}
@@ -22,15 +23,11 @@ no-none e = absurd (let z : _≡_ {A = ℕ} 0 1 = cc in omega arith)
 pub not-both : {A : Type 0} {x : Bool} → x ≡ true → x ≡ false → A
 not-both p q = absurd (let z : _≡_ {A = ℕ} 0 1 = cc in omega arith)
 
-or-neither : (x y : Bool) → (x || y) ≡ false → (x ≡ false) × (y ≡ false)
-or-neither true y e = not-both refl e
-or-neither false y e = (refl, e)
-
 module _ {C : Type 0} where
   -- a link has no cost exactly where the list does not name it
   pub cost-none : (d : Bool) (u v : ℕ) (ls : List (Link C)) → names d u v ls ≡ false → costOf d u v ls ≡ none
   cost-none d u v [] h = refl
-  cost-none d u v (l ∷ ls) h = let p = or-neither (joins d u v l) _ h in rw (p .0) (cost-none d u v ls (p .1))
+  cost-none d u v (l ∷ ls) h = let p = or-no (joins d u v l) _ h in rw (p .0) (cost-none d u v ls (p .1))
 
   pub none-names : (d : Bool) (u v : ℕ) (ls : List (Link C)) → costOf d u v ls ≡ none → names d u v ls ≡ false
   none-names d u v [] h = refl
@@ -165,7 +162,7 @@ module _ {C : Type 0} where
   -- a link that no record names has no last cost
   last-none : (d : Bool) (u v : ℕ) (rs : List (Link C)) → names d u v rs ≡ false → lastCost d u v rs ≡ none
   last-none d u v [] h = refl
-  last-none d u v (r ∷ rs) h = let p = or-neither (joins d u v r) _ h in rw (p .0, p .1)
+  last-none d u v (r ∷ rs) h = let p = or-no (joins d u v r) _ h in rw (p .0, p .1)
 
   -- the cost of a link in the list of last records
   pub cost-lasts : (d : Bool) (u v : ℕ) (rs : List (Link C)) → costOf d u v (lasts d rs) ≡ lastCost d u v rs

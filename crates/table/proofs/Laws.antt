@@ -15,17 +15,9 @@ use borrow.Author.Tests.{leb-true, ltb-true, ltb-false, lt-ltb, le-ltb, le-leb, 
 use lib.Dec.{leb, ltb, eqb}
 use lib.IntN.{ℤ}
 use lib.ListN.{length, getD, take}
+use Rattle.whole.proofs.Cases.{and-left, and-right}
 use Rattle.table.specs.Links.{Link, linkOf, samePair, present, presentBoth, zip3, ends, inside, allInside, lentWhole, tableNo, joinsEnds, placeOf, FirstPlace, Place, placeNow, placeAt, placing}
 use Rattle.table.specs.Lent.{shorter, roomEnds, roomInts, roomFloats, floatCosts}
-
--- both parts of a conjunction
-pub and-left : (x y : Bool) → (x && y) ≡ true → x ≡ true
-and-left true y e = refl
-and-left false y e = e
-
-pub and-right : (x y : Bool) → (x && y) ≡ true → y ≡ true
-and-right true y e = e
-and-right false y e = absurd (let z : _≡_ {A = ℕ} 0 1 = cc in omega arith)
 
 -- the smaller of two sizes
 pub shorter-left : (x y : ℕ) → shorter x y ≤ x

@@ -11,8 +11,9 @@ use native.Mathlib.Omega.{arith}
 use borrow.Author.Tests.{ltb-true, ltb-false, lt-ltb, ne-eqb}
 use lib.Dec.{ltb}
 use lib.ListN.{getD, take}
+use Rattle.whole.proofs.Cases.{and-left, and-right}
 use Rattle.table.specs.Links.{present, ends, allInside}
-use Rattle.table.proofs.Laws.{and-left, and-right, Sized, inside-step}
+use Rattle.table.proofs.Laws.{Sized, inside-step}
 
 -- unless a test has failed, P holds at the first i places
 abbrev pub Until : (ℕ → Type 0) → ℕ → Bool → Type 0

@@ -13,9 +13,10 @@ use borrow.Author.Tests.{ne-eqb}
 use lib.Dec.{eqb}
 use lib.ListN.{length, take, set, length-set}
 use lib.Seq.{length-take-le, take-suc-set}
+use Rattle.whole.proofs.Cases.{and-left, and-right}
 use Rattle.table.specs.Links.{Link, linkOf, joins, placeOf, inside, allInside, Place, placeNow, placing}
 use Rattle.table.proofs.Tables.{putList, recost, Table, store, putTable, held}
-use Rattle.table.proofs.Laws.{and-left, and-right, Found, refused, replaced, appended, found, not-zero}
+use Rattle.table.proofs.Laws.{Found, refused, replaced, appended, found, not-zero}
 
 module _ {C : Type 0} where
   -- the cost replaced, in the first n places and in all

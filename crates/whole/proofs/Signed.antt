@@ -1,18 +1,23 @@
 -- Signed numbers as the code holds them: a local or an element passed on is read back from its bits, and is the same number.
 -- Assumes nothing.
-use mathlib.Core.Path.{_≡_, refl, sym, subst, _∙_}
+use mathlib.Core.Path.{_≡_, refl, sym, ap, subst, _∙_}
 use mathlib.Core.Bool.{Bool, true, false, true≢false}
 use mathlib.Core.List.{List}
-use Prim.Native.Nat.{ℕ, _<_, _^_}
+use Prim.Native.Nat.{ℕ, zero, suc, _<_, _^_}
 use native.Mathlib.Omega.{arith}
 use borrow.Author.Tests.{ltb-false, ltb-true, le-ltb}
-use lib.IntN.{ℤ, pos, negsuc}
+use lib.IntN.{ℤ, pos, negsuc, _-ℤ_}
 use lib.ListN.{getD}
 use lib.Signed.{mag, ltZ, _≤ℤ_, _<ℤ_}
 use mir.Syntax.{w64}
 use mir.Val.{SFits, toZ, ofZ}
 use mir.ValLaws.{toZ-ofZ}
 use Rattle.whole.specs.Zed.{_⊕_, zed, Within}
+
+-- -1 less k
+pub under : (k : ℕ) → negsuc 0 -ℤ pos k ≡ negsuc k
+under zero = refl
+under (suc k) = ap (λ (n : ℕ). negsuc (suc n)) (omega arith)
 
 -- ---- the order of whole numbers, as a test
 pub ltZ-asym : (a b : ℤ) → ltZ a b ≡ true → ltZ b a ≡ false
@@ -46,11 +51,6 @@ read-at l i h = read-back (getD l i (pos 0)) h
 -- ---- a test of two numbers read back is of the numbers
 pub told : {a b : ℤ} {t : Bool} → SFits w64 a → SFits w64 b → ltZ (toZ w64 (ofZ w64 a)) (toZ w64 (ofZ w64 b)) ≡ t → ltZ a b ≡ t
 told {a} {b} {t} f g e = subst (λ (x : ℤ). ltZ x b ≡ t) (toZ-ofZ w64 a f) (subst (λ (y : ℤ). ltZ (toZ w64 (ofZ w64 a)) y ≡ t) (toZ-ofZ w64 b g) e)
-
--- of two elements, each with the bound that reading it hands over
-pub told-at : (l : List ℤ) (i j : ℕ) {t : Bool} → mag (getD l i (pos 0)) < 2 ^ 63 → mag (getD l j (pos 0)) < 2 ^ 63
-    → ltZ (toZ w64 (ofZ w64 (getD l i (pos 0)))) (toZ w64 (ofZ w64 (getD l j (pos 0)))) ≡ t → ltZ (getD l i (pos 0)) (getD l j (pos 0)) ≡ t
-told-at l i j f g e = told {a = getD l i (pos 0)} {b = getD l j (pos 0)} (record { sfits = f }) (record { sfits = g }) e
 
 -- what `lower` answers, of numbers that its arguments are equal to
 pub look-lt : {a b x y : ℤ} {r : Bool} → x ≡ a → y ≡ b → r ≡ ltZ x y → r ≡ true → a <ℤ b

@@ -27,19 +27,6 @@ abbrev pub N : ℤ → ℕ
 N (pos n) = 0
 N (negsuc n) = suc n
 
--- at literals
-pub P-pos : (n : ℕ) → P (pos n) ≡ n
-P-pos n = refl
-
-pub N-pos : (n : ℕ) → N (pos n) ≡ 0
-N-pos n = refl
-
-pub P-neg : (n : ℕ) → P (negsuc n) ≡ 0
-P-neg n = refl
-
-pub N-neg : (n : ℕ) → N (negsuc n) ≡ suc n
-N-neg n = refl
-
 -- ---- rules: a hypothesis read
 pub le-in : (a b : ℤ) → a ≤ℤ b → P a + N b ≤ P b + N a
 le-in (pos a) (pos b) h = let k : a ≤ b = leb→le a b (h .le) in omega arith
@@ -151,9 +138,6 @@ pub le-no : (a b : ℤ) → leZ a b ≡ false → P b + N a < P a + N b
 le-no a b e = lt-in b a (record { lt = nle a b (ntest (leZ a b) false e tt) })
 
 -- ---- a signed local holds bits: what is read back
-pub rd : (w : Width) (z : ℤ) → SFits w z → (P (toZ w (ofZ w z)) ≡ P z) × (N (toZ w (ofZ w z)) ≡ N z)
-rd w z f = (ap P (toZ-ofZ w z f), ap N (toZ-ofZ w z f))
-
 pub widen : {z : ℤ} → SFits w32 z → SFits w64 z
 widen {z} f = omega (arith, fits-in, fits-out)
 

@@ -19,7 +19,7 @@ returns-2 : tie.Need-returns-2
 returns-2 c =
     let s = c .before .before .before .before .before .before .before .before .before .before .before .before .before .before .before in
     let p = s .before .before .before .before .before .before .before .before .before .before in
-    ran (passed _ _ _ (sym (p .before .refusal .ensures) ∙ p .if1 .left)) (s .solve .ensures)
+    ran (passed _ _ _ (sym (p .before .refusal .ensures) ∙ p .if1 .left)) (s .solve .ensures _)
 
 pub a-star-spec : {M : Type 1} → statement M
 a-star-spec =

@@ -1,6 +1,7 @@
 -- `dijkstra_path::wipe` meets its contract.
 -- Assumes nothing.
 use borrow.Author.Needs.{needs}
+use Rattle.rows.specs.Rows.{listsOf}
 use Rattle.dijkstra_path.proofs.wipe.Statement.{statement}
 use Rattle.dijkstra_path.proofs.wipe.Tie as tie
 
@@ -11,11 +12,8 @@ returns c =
     let at-clear-u64 = at-clear-usize2 .before .before .before .before in
     let at-clear-u16 = at-clear-u64 .before .before .before .before in
     let at-clear-usize = at-clear-u16 .before .before .before .before in (
-      at-clear-usize .clear-usize .ensures,
-      (
-        at-clear-u16 .clear-u16 .ensures,
-        (at-clear-u64 .clear-u64 .ensures, (at-clear-usize2 .clear-usize2 .ensures, (at-clear-usize3 .clear-usize3 .ensures, c .before .before .clear-u642 .ensures))),
-      ),
+      λ i. listsOf (at-clear-usize .clear-usize .ensures i) (at-clear-u16 .clear-u16 .ensures i) (at-clear-u64 .clear-u64 .ensures i),
+      (at-clear-usize2 .clear-usize2 .ensures, (at-clear-usize3 .clear-usize3 .ensures, c .before .before .clear-u642 .ensures)),
     )
 
 pub wipe-spec : {M : Type 1} → statement M
