@@ -312,7 +312,7 @@ module _ {m n : ℕ} {d : Bool} {xs ys : List ℕ} {cs : List ℤ} {q : Question
         made c p s i k = (
           record {
             end = z .end;
-            ends = literal-exactly h q (z .end) .0 (z .ends);
+            ends = literal-exactly .1 (z .ends);
             cost = c;
             path = p;
             says = s;

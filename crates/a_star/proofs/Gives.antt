@@ -34,7 +34,8 @@ use Rattle.a_star.specs.Promise.{Question, Answer, answerOf, Buffers, Fi
 use Rattle.a_star.specs.Given.{pathIn, Modest, Given}
 use Rattle.a_star.proofs.Path.{chain-path, distinct-back, passed-source}
 use Rattle.a_star.proofs.Answers.{answered, got, chain-few, some-zero}
-use Rattle.a_star.proofs.Settles.{one-place, cases, outcome-of}
+use Rattle.a_star.proofs.Literal.{literal-exactly}
+use Rattle.a_star.proofs.Settles.{cases, outcome-of}
 
 -- an index from which a walk leads to one that the map has is one too
 starts-has : (g : Net ℤ) → ((u v : ℕ) (c : ℤ) → ArcOf g u v c → has g u ≡ true) → {u v : ℕ} {t : ℤ} → Walk (ArcOf g) u v t → has g v ≡ true → has g u ≡ true
@@ -57,7 +58,7 @@ path-few {g} {q} w o = (go (o .says), ap (λ (x : Result). x .length) (o .leaves
   where
     go : {d : ℤ} {l : List ℕ} → Says (ArcOf g) q (o .end) d l → length l ≤ width g
     go (unreached n p i) = omega (arith, ap length i)
-    go {d} (reached n c i) = omega (arith, ap length i, length-reverse (passed c), passed-length c, chain-few g q w (one-place g q (o .ends)) d n c)
+    go {d} (reached n c i) = omega (arith, ap length i, length-reverse (passed c), passed-length c, chain-few g q w (literal-exactly .0 (o .ends)) d n c)
 
 module _ {g : Net ℤ} {q : Question} {b : Buffers} where
   module _ (e : Buffers) (r : Answer) (w : Fine g q b) (o : Outcome g q b (resultOf r e)) where
@@ -72,12 +73,12 @@ module _ {g : Net ℤ} {q : Question} {b : Buffers} where
         go : Says (ArcOf g) q (o .end) (o .cost) (o .path) → Given g q r (pathIn e r)
         go (unreached n p i) = absurd (omega (arith, h, path-few w o .1, ap length i))
         go (reached n c i) =
-            let z = some-zero (one-place g q (o .ends)) n in
+            let z = some-zero (literal-exactly .0 (o .ends)) n in
             let is : pathIn e r ≡ reverse (passed c) = path-front e r o ∙ i in
             let t = net-path-total g (chain-path c) in
             let total : Cheapest (ArcOf g) (passed c) (t .0) = subst (λ (l : List ℕ). Cheapest (ArcOf g) l (t .0)) (reverse-reverse (passed c)) (t .1) in
             let cost : o .cost ≡ r .cost = sym (ap (λ (y : Result). y .cost) (o .leaves)) in
-            let y = answered q (one-place g q (o .ends)) in
+            let y = answered q (literal-exactly .0 (o .ends)) in
             record {
               path = subst (Path (ArcOf g) (q .source) (q .target)) (sym is) (chain-path c);
               distinct = subst NoDup (sym is) (distinct-back (passed c) (chain-distinct c));
@@ -113,9 +114,9 @@ module _ {g : Net ℤ} {q : Question} {b : Buffers} where
   none-or-given {e} {r} promise z = ⊎-elim (λ x. absurd (omega (arith, z, x .0))) (λ x. go (x .1 .0) (sym (x .1 .1) ∙ z) (x .1 .0 .says)) (cases promise)
     where
       go : (o : Outcome g q b (resultOf r e)) → o .end .number ≡ 0 → Says (ArcOf g) q (o .end) (o .cost) (o .path) → ((resultOf r e ≡ withPath g b noneI64 []) × NoWalk g q) ⊎ Found g q r
-      go o y (unreached n p i) = inl (o .leaves ∙ (λ j. withPath g b (p j) (i j)), answered q (one-place g q (o .ends)) .unreached y n)
+      go o y (unreached n p i) = inl (o .leaves ∙ (λ j. withPath g b (p j) (i j)), answered q (literal-exactly .0 (o .ends)) .unreached y n)
       go o y (reached n c i) =
-          let k = got q (one-place g q (o .ends)) (q .target) (o .cost) n in
+          let k = got q (literal-exactly .0 (o .ends)) (q .target) (o .cost) n in
           let cost : o .cost ≡ r .cost = sym (ap (λ (y : Result). y .cost) (o .leaves)) in
           let some : 0 < r .length = omega (arith, ap (λ (y : Result). y .length) (o .leaves), ap length i, length-reverse (passed c), passed-length c) in
           inr (subst (λ (x : ℤ). pos 0 ≤ℤ x) cost (k .up), some, subst (Walk (ArcOf g) (q .source) (q .target)) cost (k .walk))
@@ -163,7 +164,7 @@ module _ {g : Net ℤ} {q : Question} {b : Buffers} where
       o = outcome-of promise w .0
 
       x : o .end ≡ doneAt (begin (searchOf q)) 1
-      x = ends-first q k refl (one-place g q (o .ends))
+      x = ends-first q k refl (literal-exactly .0 (o .ends))
 
       at : o .end .dist (q .target) ≡ some (pos 0)
       at = ap (λ (y : End ℤ). y .dist (q .target)) x ∙ ap distOf (ap (begin (searchOf q)) k ∙ first-dist q)

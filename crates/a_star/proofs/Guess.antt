@@ -23,7 +23,7 @@ use Rattle.rows.specs.Scratch.{hasLists}
 use Rattle.search.specs.Lists.{hasMemory}
 use Rattle.a_star.specs.Promise.{Question, questionOf, Answer, Buffers, longEnough, enough, isFair, fairAt, fairBelow, Fine, searchOf, Says, unreached, reached, resultOf, table, Promise}
 use Rattle.a_star.proofs.Refusals.{fair-absent, fair-present}
-use Rattle.a_star.proofs.Settles.{one-place, ran, outcome-of}
+use Rattle.a_star.proofs.Settles.{ran, outcome-of}
 use Rattle.a_star.proofs.Literal.{literal-exactly}
 
 -- what a turn stores does not look at the keys
@@ -109,7 +109,7 @@ module _ (g : Net ℤ) (q : Question) (h : List ℤ) (same : (v : ℕ) → has g
         outcome : Fine g q b → Follows (table g q′ b) (resultOf r e) (r .number)
         outcome w =
             let (o, is) = outcome-of promise w in
-            let x = literal-exactly g q′ (o .end) .0 (end-same (w .source) (w .inside) (one-place g q (o .ends))) in
+            let x = literal-exactly .1 (end-same (w .source) (w .inside) (literal-exactly .0 (o .ends))) in
             ran (record { enough = sym enough-same ∙ w .enough; inside = w .inside; source = w .source; target = w .target; fair = sym (fair-same (g .bound)) ∙ w .fair })
             (record { end = o .end; ends = x; cost = o .cost; path = o .path; says = says-same (o .says); leaves = o .leaves }, is) .follows
 

@@ -17,7 +17,6 @@ use Rattle.numbers.proofs.Numbers.{_then_, is-one, follows-one, exactly, given,
 use Rattle.clean.specs.Fill.{filled}
 use Rattle.clean.specs.None.{noneI64, noneU32}
 use Rattle.pending.specs.Setting.{End}
-use Rattle.pending.specs.OnePlace.{begin, Ends}
 use Rattle.pending.proofs.Literal.{literal-one}
 use Rattle.pending.proofs.One.{ends-map, number-is}
 use Rattle.net.specs.Net.{Net, ArcOf, has, SameNet}
@@ -32,12 +31,8 @@ use Rattle.a_star.proofs.Literal.{literal-exactly}
 
 -- ---- one outcome
 -- the search has one end
-pub end-one : (g : Net ℤ) (q : Question) {x y : End ℤ} → EndsIn g q x → EndsIn g q y → x ≡ y
-end-one g q p r = literal-one (searchOf q) (rowsOf g) p r
-
--- with one place per index too
-pub one-place : (g : Net ℤ) (q : Question) {x : End ℤ} → EndsIn g q x → Ends (searchOf q) (ArcOf g) (begin (searchOf q)) 0 x
-one-place g q {x} r = literal-exactly g q x .1 r
+pub end-one : {g : Net ℤ} {q : Question} {x y : End ℤ} → EndsIn g q x → EndsIn g q y → x ≡ y
+end-one {g} {q} p r = literal-one (searchOf q) (rowsOf g) (p .run) (r .run)
 
 -- none is no distance
 nothing : {A : Type 0} {o : Option ℤ} {d : ℤ} → o ≡ none → o ≡ some d → A
@@ -52,7 +47,7 @@ says-one {d = d} {d′} (reached n c i) (reached n′ c′ i′) = let k : some 
 
 -- one cost and one path, whatever the buffers
 pub outcome-path : {g : Net ℤ} {q : Question} {b b′ : Buffers} {y y′ : Result} (o : Outcome g q b y) (u : Outcome g q b′ y′) → (o .cost ≡ u .cost) × (o .path ≡ u .path)
-outcome-path {g} {q} o u = says-one (o .says) (subst (λ (x : End ℤ). Says (ArcOf g) q x (u .cost) (u .path)) (end-one g q (u .ends) (o .ends)) (u .says))
+outcome-path {g} {q} o u = says-one (o .says) (subst (λ (x : End ℤ). Says (ArcOf g) q x (u .cost) (u .path)) (end-one (u .ends) (o .ends)) (u .says))
 
 -- one outcome
 outcome-one : {g : Net ℤ} {q : Question} {b : Buffers} {y y′ : Result} → Outcome g q b y → Outcome g q b y′ → y ≡ y′
@@ -60,12 +55,12 @@ outcome-one {g} {q} {b} o u = let k = outcome-path o u in o .leaves ∙ ((λ i. 
 
 -- ---- from the outcome to the promise, and back
 -- an end with 6 gives no path
-no-distance : (g : Net ℤ) (q : Question) {x : End ℤ} → EndsIn g q x → x .number ≡ 6 → x .dist (q .target) ≡ none
-no-distance g q r z = ap (λ (y : End ℤ). y .dist (q .target)) (end-refused (one-place g q r) (λ y. other 6 0 z y (λ w. omega arith)) .1)
+no-distance : {g : Net ℤ} {q : Question} {x : End ℤ} → EndsIn g q x → x .number ≡ 6 → x .dist (q .target) ≡ none
+no-distance {q = q} r z = ap (λ (y : End ℤ). y .dist (q .target)) (end-refused (literal-exactly .0 r) (λ y. other 6 0 z y (λ w. omega arith)) .1)
 
 -- an end with another number has 0
-zero-else : (g : Net ℤ) (q : Question) {x : End ℤ} → EndsIn g q x → (x .number ≡ 6 → ⊥) → x .number ≡ 0
-zero-else g q r f = ⊎-elim (λ z. z) (λ z. absurd (f z)) (number-is (one-place g q r))
+zero-else : {g : Net ℤ} {q : Question} {x : End ℤ} → EndsIn g q x → (x .number ≡ 6 → ⊥) → x .number ≡ 0
+zero-else r f = ⊎-elim (λ z. z) (λ z. absurd (f z)) (number-is (literal-exactly .0 r))
 
 -- an outcome, and its end's number
 abbrev pub Ran : Net ℤ → Question → Buffers → Buffers → Answer → Type 0
@@ -78,22 +73,22 @@ Refused b e r = (1 ≤ r .number) × (r .number ≤ 5) × (resultOf r e ≡ noPa
 -- behind the tests the promise says an outcome: after 6 one without a path
 run-of : (g : Net ℤ) (q : Question) (b e : Buffers) (r : Answer) → Follows (behind 5 (table g q b)) (resultOf r e) (r .number) → Ran g q b e r
 run-of g q b e r (here y x) =
-    (record { end = y .0; ends = y .1; cost = noneI64; path = []; says = unreached (no-distance g q (y .1) (y .2)) refl refl; leaves = x .1 }, x .0 ∙ sym (y .2))
-run-of g q b e r (past w (here y x)) = let o = x .1 in (o, x .0 ∙ sym (zero-else g q (o .ends) (λ z. w (o .end, o .ends, z))))
+    (record { end = y .0; ends = y .1; cost = noneI64; path = []; says = unreached (no-distance (y .1) (y .2)) refl refl; leaves = x .1 }, x .0 ∙ sym (y .2))
+run-of g q b e r (past w (here y x)) = let o = x .1 in (o, x .0 ∙ sym (zero-else (o .ends) (λ z. w (o .end, o .ends, z))))
 run-of g q b e r (past w (past y x)) = absurd x
 
 module _ {g : Net ℤ} {q : Question} {b e : Buffers} where
   -- an outcome is what the promise says
   pub ran : {r : Answer} → Fine g q b → Ran g q b e r → Promise g q b e r
   ran {r} w (o, is) =
-      record { follows = past (w .enough) (past (w .inside) (past (w .source) (past (w .target) (past (w .fair) (go (number-is (one-place g q (o .ends)))))))) }
+      record { follows = past (w .enough) (past (w .inside) (past (w .source) (past (w .target) (past (w .fair) (go (number-is (literal-exactly .0 (o .ends)))))))) }
     where
       blank : o .end .number ≡ 6 → Says (ArcOf g) q (o .end) (o .cost) (o .path) → resultOf r e ≡ withPath g b noneI64 []
       blank z (unreached n p i) = o .leaves ∙ (λ j. withPath g b (p j) (i j))
-      blank z (reached n c i) = nothing (no-distance g q (o .ends) z) n
+      blank z (reached n c i) = nothing (no-distance (o .ends) z) n
 
       go : (o .end .number ≡ 0) ⊎ (o .end .number ≡ 6) → Follows (behind 5 (table g q b)) (resultOf r e) (r .number)
-      go (inl z) = past (λ y. other 6 0 (y .2) (ap (λ (x : End ℤ). x .number) (end-one g q (y .1) (o .ends)) ∙ z) (λ k. omega arith)) (here tt (is ∙ z, o))
+      go (inl z) = past (λ y. other 6 0 (y .2) (ap (λ (x : End ℤ). x .number) (end-one (y .1) (o .ends)) ∙ z) (λ k. omega arith)) (here tt (is ∙ z, o))
       go (inr z) = here (o .end, o .ends, z) (is ∙ z, blank z (o .says))
 
   -- where nothing is refused there is an outcome
@@ -174,10 +169,10 @@ module _ {g g′ : Net ℤ} (same : SameNet g g′) (q : Question) (b : Buffers)
   over u v c = same .arcs u v c .0
 
   ends-over : {x : End ℤ} → EndsIn g q x → EndsIn g′ q x
-  ends-over {x} r = literal-exactly g′ q x .0 (ends-map (searchOf q) (ArcOf g) (ArcOf g′) over (λ u v c. same .arcs u v c .1) (one-place g q r))
+  ends-over r = literal-exactly .1 (ends-map (searchOf q) (ArcOf g) (ArcOf g′) over (λ u v c. same .arcs u v c .1) (literal-exactly .0 r))
 
   ends-back : {x : End ℤ} → EndsIn g′ q x → EndsIn g q x
-  ends-back {x} r = literal-exactly g q x .0 (ends-map (searchOf q) (ArcOf g′) (ArcOf g) (λ u v c. same .arcs u v c .1) over (one-place g′ q r))
+  ends-back r = literal-exactly .1 (ends-map (searchOf q) (ArcOf g′) (ArcOf g) (λ u v c. same .arcs u v c .1) over (literal-exactly .0 r))
 
   -- and says the same
   says-over : {x : End ℤ} {d : ℤ} {l : List ℕ} → Says (ArcOf g) q x d l → Says (ArcOf g′) q x d l

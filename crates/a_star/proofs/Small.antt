@@ -46,7 +46,7 @@ by-bag {g} {q} {b} {e} {r} promise w x y d l z n k = go (subst (λ (u : End ℤ)
     o = outcome-of promise w .0
 
     end : o .end ≡ x
-    end = end-one g q (o .ends) y
+    end = end-one (o .ends) (record { run = y })
 
     number : r .number ≡ 0
     number = outcome-of promise w .1 ∙ (ap (λ (u : End ℤ). u .number) end ∙ z)

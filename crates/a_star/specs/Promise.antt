@@ -113,8 +113,8 @@ abbrev pub searchOf : Question → Setting ℤ ℤ
 searchOf q = aStar (λ v. getD (q .guess) v (pos 0)) (q .source) (q .target)
 
 -- what 01's pending bag ends in, for the question, over the rows of the map
-abbrev pub EndsIn : Net ℤ → Question → End ℤ → Type 0
-EndsIn g q x = Ends (searchOf q) (rowsOf g) (start (searchOf q)) x
+pub record EndsIn (g : Net ℤ) (q : Question) (x : End ℤ) : Type 0 where
+  pub run : Ends (searchOf q) (rowsOf g) (start (searchOf q)) x
 
 -- what the search's end x says: the cost d, and the path l by the predecessors, its first index first
 pub data Says (Arc : ℕ → ℕ → ℤ → Type 0) (q : Question) (x : End ℤ) (d : ℤ) (l : List ℕ) : Type 0 where

@@ -30,7 +30,7 @@ use Rattle.dijkstra_path.specs.Promise as search
 pub a-star-bag : {g : Net ℤ} {q : star.Question} {b e : star.Buffers} {r : star.Answer} → star.Promise g q b e r → star.Fine g q b →
     (x : End ℤ) × Lit.Ends (star.searchOf q) (rowsOf g) (Lit.start (star.searchOf q)) x × (r .number ≡ x .number)
     × (d : ℤ) × (l : List ℕ) × star.Says (ArcOf g) q x d l × (star.resultOf r e ≡ star.withPath g b d l)
-a-star-bag p w = let (o, n) = outcome-of p w in (o .end, o .ends, n, o .cost, o .path, o .says, o .leaves)
+a-star-bag p w = let (o, n) = outcome-of p w in (o .end, o .ends .run, n, o .cost, o .path, o .says, o .leaves)
 
 -- ---- `dijkstra_path_impl`, `dijkstra_path_f64`
 pub dijkstra-path-bag : {g : Net FloatCost} {s : ℕ} {k : Cutoff} {b e : search.Buffers} {number : ℕ} → search.Promise g s k b e number → search.enough g b ≡ true → insideNet g ≡ true → has g s ≡ true
