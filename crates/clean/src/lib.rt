@@ -1,4 +1,6 @@
 // The used part of a lent slice, cleared, or blank: none in every entry.
+#![tactic(auto)]
+
 ghost use Rattle.std.specs.Prelude.{◌≡◌, ◌≤◌, pos, length};
 ghost use Rattle.clean.specs.Fill.{filled};
 ghost use Rattle.clean.specs.None.{none_i64, none_u32, none_f64};

@@ -1,5 +1,7 @@
 // f64 costs and distances, both as patterns of 64 bits:
 // what one arc of a search does with them. A float stands in sums and comparisons alone.
+#![tactic(auto)]
+
 ghost use Rattle.std.specs.Prelude.{◌≡◌, cond};
 ghost use Rattle.std.specs.Float.{binary64};
 ghost use Rattle.clean.specs.None.{none_f64};

@@ -1,3 +1,5 @@
+#![tactic(auto)]
+
 ghost use Rattle.std.specs.Prelude.{true, false, ◌≡◌, ℕ, ◌+◌, ◌-◌, ◌≤◌, ◌<◌, length, get_or, take};
 ghost use Rattle.table.specs.Links.{present, present_both, lent_whole, all_inside, ends, table_no};
 ghost use Rattle.table.specs.Links.{same_pair, joins_ends, FirstPlace, place_now, placing, link_of};

@@ -1,4 +1,6 @@
 // Signed numbers: a sum that fits, an i32 as an i64, and a comparison, each as a statement on whole numbers.
+#![tactic(auto)]
+
 ghost use Rattle.std.specs.Prelude.{◌≡◌, ◌^◌};
 ghost use Rattle.std.specs.Int.Signed.{lt_z};
 ghost use Rattle.whole.specs.Zed.{◌⊕◌, Within};

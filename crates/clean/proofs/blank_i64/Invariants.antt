@@ -1,0 +1,12 @@
+-- `clean::blank_i64` meets its contract.
+-- Assumes nothing.
+use Prim.Native.Nat.{◌-◌}
+use Rattle.clean.specs.None.{none_i64}
+use Rattle.clean.proofs.Filling.{Filling}
+use Rattle.clean.proofs.blank_i64.Given as goal
+
+abbrev pub invariant-loop-i : goal.invariant-loop-i
+invariant-loop-i l = Filling l.n none_i64 l.initial.s l.s l.i
+
+abbrev pub decreases-loop-i : goal.decreases-loop-i
+decreases-loop-i l = l.n - l.i

@@ -1,0 +1,12 @@
+-- `clean::clear_i64` meets its contract.
+-- Assumes nothing.
+use Prim.Native.Nat.{◌-◌}
+use lib.IntN.{pos}
+use Rattle.clean.proofs.Filling.{Filling}
+use Rattle.clean.proofs.clear_i64.Given as goal
+
+abbrev pub invariant-loop-i : goal.invariant-loop-i
+invariant-loop-i l = Filling l.n (pos 0) l.initial.s l.s l.i
+
+abbrev pub decreases-loop-i : goal.decreases-loop-i
+decreases-loop-i l = l.n - l.i

@@ -1,0 +1,14 @@
+-- `clean::clear_usize` meets its contract.
+-- Assumes nothing.
+use native.Mathlib.Omega.{arith}
+use Rattle.clean.proofs.Filling.{starts, goes_on, ends}
+use Rattle.clean.proofs.clear_usize.Goals as goal
+
+pub loop-i-init : goal.loop-i-init
+loop-i-init c = starts (omega arith)
+
+pub loop-i-preserved : goal.loop-i-preserved
+loop-i-preserved c = goes_on c.before.loop-i.invariant (omega arith)
+
+pub returns : goal.returns
+returns c = ends c.before.loop-i.invariant (omega arith)
