@@ -31,6 +31,7 @@ member (x ∷ l) (suc i) h = there (member l i (omega arith))
 pub place_of : (l : List ℕ) (x : ℕ) → In x l → (i : ℕ) × (i < length l) × (get_or l i 0 ≡ x)
 place_of (y ∷ l) x (here e) = (0, omega arith, sym e)
 place_of (y ∷ l) x (there w) = let k = place_of l x w in (suc k.0, omega (arith, k.1), k.2)
+place_of [] x x3 = elim x3 [ ]
 
 module _ (f : ℕ → Bool) where
   -- one index more, absent or present

@@ -1,4 +1,6 @@
 // What every engine asks of a lent map before it starts.
+#![tactic(auto)]
+
 ghost use Rattle.std.specs.Prelude.{true, ◌++◌, ◌≡◌, ℕ, ◌≤◌, length, drop};
 ghost use Rattle.table.specs.Links.{present};
 ghost use Rattle.net.specs.Net.{net_of, net_of64, whole_net, inside_net, rising, most_arcs};

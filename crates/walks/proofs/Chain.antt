@@ -45,6 +45,7 @@ module _ {Arc : ℕ → ℕ → ℤ → Type 0} {o : ℕ} {dist : ℕ → Option
         (record { d = l.d; e = l.e; c = l.c; from = l.from; to = ap dist e ∙ l.to; arc_is = subst (λ (z : ℕ). Arc u z l.c) (sym e) l.arc_is; up = l.up; low = l.low }) c,
     omega arith,
   )
+  tail_at (source {v = v} i) x (there x8) = elim x8 [ ]
   tail_at (via u n p l c) x (there i) = let r = tail_at c x i in (r.0, omega (arith, r.1))
 
   -- no index twice
@@ -62,6 +63,7 @@ module _ {Arc : ℕ → ℕ → ℤ → Type 0} {o : ℕ} {dist : ℕ → Option
   passed_in {v} ps f e q (source i) x (here k) = subst (λ (z : ℕ). In z ps) (sym k) (f v e q)
   passed_in {v} ps f e q (via u n p l c) x (here k) = subst (λ (z : ℕ). In z ps) (sym k) (f v e q)
   passed_in ps f e q (via u n p l c) x (there i) = passed_in ps f l.d l.from c x i
+  passed_in ps f e q (source {v = v} i) x (there x12) = elim x12 [ ]
 
   -- so it has fewer arcs than there are indices
   pub hops_few : {v : ℕ} (ps : List ℕ) → ((x : ℕ) (d : ℤ) → dist x ≡ some d → In x ps) → (e : ℤ) → dist v ≡ some e → (c : Chain Arc o dist pred v) → hops c < length ps

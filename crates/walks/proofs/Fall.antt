@@ -24,6 +24,7 @@ ixs (m ∷ h) = m.ix ∷ ixs h
 ixs_at : {x : ℕ} (h : List Mark) → In x (ixs h) → (a : ℤ) × At x a h
 ixs_at (m ∷ h) (here e) = (m.had, at_here e refl)
 ixs_at (m ∷ h) (there i) = let r = ixs_at h i in (r.0, at_there r.1)
+ixs_at [] x'' = elim x'' [ ]
 
 -- as many as marks
 ixs_length : (h : List Mark) → length (ixs h) ≡ length h
@@ -44,6 +45,7 @@ module _ {Arc : ℕ → ℕ → ℤ → Type 0} {o : ℕ} where
       let s = r.1.0 in
       let k : d ≡ b ⊕ s = r.1.2 in
       (r.0, (s ⊕ c, join r.1.1 (arc a) refl, omega (arith, zed, sum d c, sum b s, sum s c, sum b (s ⊕ c))))
+  rest {x = x} {a = b} (begin {e = e} _) x9 = elim x9 [ ]
 
   -- it repeats nothing, or shows a closed walk below zero
   pub fresh_or : {v : ℕ} {d : ℤ} {h : List Mark} → Trail Arc o v d h → NoDup (v ∷ ixs h) ⊎ NegativeFrom Arc o
@@ -68,6 +70,7 @@ module _ {Arc : ℕ → ℕ → ℤ → Type 0} {o : ℕ} where
       all (begin e) x (here q) = subst (λ y. In y ps) (sym q) i
       all (snoc {u} {v} {c} t a e g) x (here q) = subst (λ y. In y ps) (sym q) (f u v c a).1
       all (snoc {u} {v} t a e g) x (there j) = all t x j
+      all (begin e) x (there j) = elim j [ ]
 
       go : NoDup (v ∷ ixs h) ⊎ NegativeFrom Arc o → NegativeFrom Arc o
       go (inl n) = absurd (omega (arith, short (v ∷ ixs h) ps n (all t), ixs_length h))

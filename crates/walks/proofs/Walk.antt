@@ -74,12 +74,14 @@ module _ {Arc : ℕ → ℕ → ℤ → Type 0} where
   cut {t = r} (step {c} {t} a w q) x (there i) =
       let k = cut w x i in
       record { a = c ⊕ k.a; b = k.b; pre = step a k.pre refl; suf = k.suf; total = split_total r c t k.a k.b q k.total; fresh = λ n. k.fresh n.1 }
+  cut (stay {u = u} {t = t} q) x (there i) = elim i [ ]
 
   -- every index of a walk is one of ps, if the ends of arcs are
   pub among : {u v : ℕ} {t : ℤ} (ps : List ℕ) → ((u v : ℕ) (c : ℤ) → Arc u v c → In v ps) → In u ps → (w : Walk Arc u v t) → (x : ℕ) → In x (verts w) → In x ps
   among ps f i (stay e) x (here q) = subst (λ y. In y ps) (sym q) i
   among ps f i (step a w e) x (here q) = subst (λ y. In y ps) (sym q) i
   among ps f i (step {u} {v} {c} a w e) x (there j) = among ps f (f u v c a) w x j
+  among ps f i (stay {u = u} {t = t} e) x (there j) = elim j [ ]
 
   -- a walk without repeats has fewer arcs than there are indices
   pub few : {u v : ℕ} {t : ℤ} (ps : List ℕ) → ((u v : ℕ) (c : ℤ) → Arc u v c → In v ps) → In u ps → (w : Walk Arc u v t) → NoDup (verts w) → arcs w < length ps
