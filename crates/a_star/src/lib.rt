@@ -11,7 +11,7 @@ ghost use Rattle.a_star.specs.Parts.{question_no, refusal_no, EnoughScratch, Can
 use table::Map;
 
 // The number that comes back, the cost, and how many indices the path has.
-#[derive(Drop)]
+#[derive(Clone, Copy)]
 pub struct Found {
     pub number: usize,
     pub cost: i64,

@@ -11,7 +11,7 @@ ghost use Rattle.bellman_ford.specs.Search.{slot_of, Pushed, Safe, ArcRelaxed, F
 use table::Map;
 
 // What looking at an arc or at a row leaves: was a path too long, and how many indices wait.
-#[derive(Drop)]
+#[derive(Clone, Copy)]
 struct Turn {
     negative: bool,
     size: usize,

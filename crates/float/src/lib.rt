@@ -13,7 +13,7 @@ ghost use Rattle.float.specs.Better.{better_within};
 ghost use Rattle.float.specs.Stored.{Stored};
 
 // A cutoff: none, or at a value, which may be any.
-#[derive(Drop)]
+#[derive(Clone, Copy)]
 pub enum Cutoff {
     None,
     At(f64),

@@ -368,7 +368,7 @@ fn refusal_f64(
 }
 
 // The number of the answer, and p: how many nodes are listed, 0 after a refusal.
-#[derive(Drop)]
+#[derive(Clone, Copy)]
 pub struct Counted {
     pub number: usize,
     pub count: usize,

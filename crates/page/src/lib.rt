@@ -9,7 +9,7 @@ ghost use Rattle.page.specs.Parts.{refusal_no, Tells, Decides, MarkedWhereKnown,
 use table::Map;
 
 // What the check answers: its number, and yes or no.
-#[derive(Drop)]
+#[derive(Clone, Copy)]
 pub struct Checked {
     pub number: usize,
     pub yes: bool,

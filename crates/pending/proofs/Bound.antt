@@ -45,6 +45,7 @@ module _ (key : ℤ → ℕ → ℤ) (target : Option ℕ) (o : ℕ) (Arc : ℕ 
         where
           self_low : (x : ℕ) → In x (v ∷ []) → (e : ℤ) × (q : Option ℕ) × Has (upd (λ w. out) o (has (pos 0) none true) x) e q × e ≤ℤ d
           self_low x (here e) = (d, p, subst (λ (y : ℕ). Has (upd (λ w. out) o (has (pos 0) none true) y) d p) (sym e) h, omega (arith, zed))
+          self_low x (there x5) = elim x5 [ ]
 
   -- a turn keeps it
   pub next_bounded : {s t : ℕ → Cell ℤ} → Inv key target o Arc s → Next (whole key target o) Arc s t → Bounded B s → Bounded B t

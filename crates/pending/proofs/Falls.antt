@@ -136,6 +136,7 @@ module _ (key : ℤ → ℕ → ℤ) (target : Option ℕ) (o : ℕ) (Arc : ℕ 
   pub turn_falls : (l : List ℕ) → In w.u l → Less (over without t l) (over without s l) (over weight t l) (over weight s l)
   turn_falls (v ∷ l) (here e) = both_less (subst (λ (x : ℕ). Less (without (t x)) (without (s x)) (weight (t x)) (weight (s x))) e at_own) (all_lower l)
   turn_falls (v ∷ l) (there i) = less_both (at_one v) (turn_falls l i)
+  turn_falls [] x' = elim x' [ ]
 
 -- it ends
 pub whole_ends : (key : ℤ → ℕ → ℤ) (target : Option ℕ) (o : ℕ) (arcs : ℕ → List (ℕ × ℤ)) (ps : List ℕ) → In o ps → ((u v : ℕ) (c : ℤ) → ArcOf arcs u v c → In v ps)

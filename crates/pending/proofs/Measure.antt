@@ -74,3 +74,4 @@ module _ (M : ℕ) where
         let b = all l in
         omega arith
     load_falls (v ∷ l) (there i) = let a = at v in let b = load_falls l i in omega arith
+    load_falls [] x' = elim x' [ ]

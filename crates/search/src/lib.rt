@@ -6,14 +6,14 @@ pub mod floats;
 pub mod ints;
 
 // What a search ends in: 0, or 6 where a bad cost was met; and how many pairs were taken and not dropped.
-#[derive(Drop)]
+#[derive(Clone, Copy)]
 pub struct Found {
     pub number: usize,
     pub takes: usize,
 }
 
 // What looking at a row leaves: was a cost bad, and how many pairs are pending.
-#[derive(Drop)]
+#[derive(Clone, Copy)]
 pub struct Turn {
     pub bad: bool,
     pub size: usize,

@@ -6,7 +6,7 @@ ghost use Rattle.table.specs.Links.{same_pair, joins_ends, FirstPlace, place_now
 ghost use Rattle.table.specs.Lent.{shorter, room_ends, room_ints, room_floats, written, ints_now, put_ints, floats_now, raw_cost, put_floats};
 
 // The scalars of a lent map.
-#[derive(Drop)]
+#[derive(Clone, Copy)]
 pub struct Map {
     pub bound: usize,
     pub count: usize,
@@ -230,7 +230,7 @@ fn ends_present(bound: usize, marks: &[u8], a: u16, b: u16) -> bool
 }
 
 // Where a record goes: the number, the count after it, the place, and whether the link is new.
-#[derive(Drop)]
+#[derive(Clone, Copy)]
 pub struct Place {
     pub refusal: usize,
     pub count: usize,
@@ -295,7 +295,7 @@ pub fn find_place(
 }
 
 // What a put answers.
-#[derive(Drop)]
+#[derive(Clone, Copy)]
 pub struct PutDone {
     pub refusal: usize,
     pub count: usize,
