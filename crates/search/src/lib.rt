@@ -1,5 +1,7 @@
 // The search: the pending bag of document 01 over a neighbour list, with two kinds of keys.
 // What the two share is proved once, over the kind of key (turns).
+#![tactic(auto)]
+
 ghost use Rattle.std.specs.Prelude.{◌≡◌, ◌<◌, length, set};
 
 pub mod floats;
