@@ -1,4 +1,6 @@
 // Least totals from one source over costs that are not below zero.
+#![tactic(auto)]
+
 ghost use Rattle.std.specs.Prelude.{◌≤◌, ◌≡◌, length};
 ghost use Rattle.clean.specs.None.{none_i64};
 ghost use Rattle.clean.specs.Fill.{filled};
