@@ -395,7 +395,8 @@ peaks_cleared peaks words v w m x y z S in_words_lem long e₁ e₂ e₃ =
     let same : length words ≡ length p = sym (length-set words v w) in
     let low : x ≡ peak p (v / 8 * 8) 8 = e₁ ∙ ap (λ (n : ℕ). peak p (v / 8 * 8) (span (v / 8 * 8) n)) (long ∙ same) ∙ group_end p (v / 8 * 8) in
     let high : y ≡ peak p (v / 64 * 64) 64 =
-    e₂ ∙ ap (λ (n : ℕ). peak h₁ (v / 64 * 8) (span (v / 64 * 8) ((n + 7) / 8))) (long ∙ same) ∙ of_low h₁ p (v / 64) (low_settled peaks words v w S in_words_lem x low) (omega (arith, same, in_words_lem)) in
+    e₂ ∙ ap (λ (n : ℕ). peak h₁ (v / 64 * 8) (span (v / 64 * 8) ((n + 7) / 8))) (long ∙ same) ∙ of_low h₁ p (v / 64)
+    (low_settled peaks words v w S in_words_lem x low) (omega (arith, same, in_words_lem)) in
     let settled = subst (λ (n : ℕ). Level h₂ p (middle n) 64) same (high_settled peaks words v w S in_words_lem x low y high) in
     let top : z ≡ peak p (v / 512 * 512) 512 = e₃ ∙ ap (λ (n : ℕ). peak (set h₁ (n / 2 + v / 64) y) (n / 2 + v / 512 * 8) (span (n / 2 + v / 512 * 8) (n / 2 + (n + 63) / 64))) long
     ∙ ap (λ (n : ℕ). peak h₂ (n / 2 + v / 512 * 8) (span (n / 2 + v / 512 * 8) (n / 2 + (n + 63) / 64))) same ∙ of_high h₂ p (v / 512) settled (omega (arith, same, in_words_lem)) in

@@ -61,7 +61,8 @@ worth_is l n x = go (eqb x none_f64)
     go false = refl
 
 -- of a sum that was made, and the entry that was read
-pub better_at_lem : (limit : Float) (d b : ℕ) {x : ℕ} → x ≡ plus64 d b → (l : List ℕ) (v : ℕ) → v < length l → better_within limit x (get_or l v 0) ≡ worth (kind64 limit) (plus64 d b) (get_or l v none_f64)
+pub better_at_lem : (limit : Float) (d b : ℕ) {x : ℕ} → x ≡ plus64 d b → (l : List ℕ) (v : ℕ) → v < length l → better_within limit x (get_or l v 0) ≡ worth
+    (kind64 limit) (plus64 d b) (get_or l v none_f64)
 unfolding better_within
 better_at_lem limit d b sum l v h =
     ap₂ (λ (z : ℕ) (y : Bool). not (past (At limit) z) && y) sum

@@ -28,7 +28,8 @@ module _ {C : Type 0} (d : Bool) where
   arc_in (l ∷ ls) (suc i) u v c (inr x) = inr (arc_in ls i u v c x)
 
   -- an arc of the first i + 1 links is one of the first i, or one of the link at place i
-  pub arc_out : (ls : List (Link C)) (o : Link C) (i : ℕ) (u v : ℕ) (c : C) → Arc d (take (suc i) ls) u v c → Arc d (take i ls) u v c ⊎ ((joins d u v (get_or ls i o) ≡ true) × ((get_or ls i o).cost ≡ c))
+  pub arc_out : (ls : List (Link C)) (o : Link C) (i : ℕ) (u v : ℕ) (c : C) → Arc d (take (suc i) ls) u v c → Arc d (take i ls) u v c ⊎
+      ((joins d u v (get_or ls i o) ≡ true) × ((get_or ls i o).cost ≡ c))
   arc_out [] o i u v c x = absurd x
   arc_out (l ∷ ls) o zero u v c (inl x) = inr x
   arc_out (l ∷ ls) o zero u v c (inr x) = absurd x

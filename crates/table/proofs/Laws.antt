@@ -16,7 +16,8 @@ use lib.Dec.{leb, ltb, eqb}
 use lib.IntN.{ℤ}
 use lib.ListN.{length, get_or, take}
 use Rattle.whole.proofs.Cases.{and_left, and_right}
-use Rattle.table.specs.Links.{Link, link_of, same_pair, present, present_both, zip3, ends, inside, all_inside, lent_whole, table_no, joins_ends, place_of, FirstPlace, Place, place_now, place_at, placing}
+use Rattle.table.specs.Links.{Link, link_of, same_pair, present, present_both, zip3, ends, inside, all_inside, lent_whole, table_no, joins_ends, place_of}
+use Rattle.table.specs.Links.{FirstPlace, Place, place_now, place_at, placing}
 use Rattle.table.specs.Lent.{shorter, room_ends, room_ints, room_floats, float_costs}
 
 -- the smaller of two sizes
@@ -139,7 +140,8 @@ and_false true = refl
 and_false false = refl
 
 -- one link that is not inside
-pub all_fails : {C : Type 0} (m : ℕ) (marks : List ℕ) (ls : List (Link C)) (o : Link C) (i n : ℕ) → i < n → i < length ls → inside m marks (get_or ls i o) ≡ false → all_inside m marks (take n ls) ≡ false
+pub all_fails : {C : Type 0} (m : ℕ) (marks : List ℕ) (ls : List (Link C)) (o : Link C) (i n : ℕ) → i < n → i < length ls → inside m marks (get_or ls i o) ≡
+    false → all_inside m marks (take n ls) ≡ false
 all_fails m marks ls o i zero h k q = absurd (not-suc-le-zero h)
 all_fails m marks [] o i (suc n) h k q = absurd (not-suc-le-zero k)
 all_fails m marks (l ∷ ls) o zero (suc n) h k q = rw q
@@ -168,12 +170,14 @@ module _ {m n : ℕ} {marks xs ys : List ℕ} (w : Sized m n marks xs ys) {i : �
   unfolding present_both
   inside_stop_b q = all_fails m marks (ends xs ys) (link_of 0 0 tt) i n h link_within (rw (link_at, q) (and_false (present m marks (get_or xs i 0))))
 
-  pub inside_step : all_inside m marks (take i (ends xs ys)) ≡ true → present m marks (get_or xs i 0) ≡ true → present m marks (get_or ys i 0) ≡ true → all_inside m marks (take (i + 1) (ends xs ys)) ≡ true
+  pub inside_step : all_inside m marks (take i (ends xs ys)) ≡ true → present m marks (get_or xs i 0) ≡ true → present m marks (get_or ys i 0) ≡ true →
+      all_inside m marks (take (i + 1) (ends xs ys)) ≡ true
   unfolding present_both
   inside_step e p q = rw add-one (all_more m marks (ends xs ys) (link_of 0 0 tt) i link_within e (rw (link_at, p, q)))
 
 -- the loop over all links
-pub inside_done : {m n : ℕ} {marks xs ys : List ℕ} {i : ℕ} → Sized m n marks xs ys × (i ≤ n) × (all_inside m marks (take i (ends xs ys)) ≡ true) → n ≤ i → all_inside m marks (take n (ends xs ys)) ≡ true
+pub inside_done : {m n : ℕ} {marks xs ys : List ℕ} {i : ℕ} → Sized m n marks xs ys × (i ≤ n) × (all_inside m marks (take i (ends xs ys)) ≡ true) → n ≤ i →
+    all_inside m marks (take n (ends xs ys)) ≡ true
 inside_done {m} {n} {marks} {xs} {ys} {i} v h = let e : i ≡ n = omega arith in rw e at v.2
 
 -- the number of the check
@@ -367,7 +371,8 @@ module _ {C : Type 0} (d : Bool) (m room : ℕ) (marks : List ℕ) (u v n : ℕ)
 
 -- the lent slices side by side
 module _ {C : Type 0} where
-  pub zip_at : (xs ys : List ℕ) (cs : List C) (o : Link C) (k : ℕ) → k < length xs → k < length ys → k < length cs → get_or (zip3 xs ys cs) k o ≡ link_of (get_or xs k 0) (get_or ys k 0) (get_or cs k o.cost)
+  pub zip_at : (xs ys : List ℕ) (cs : List C) (o : Link C) (k : ℕ) → k < length xs → k < length ys → k < length cs → get_or (zip3 xs ys cs) k o ≡ link_of
+      (get_or xs k 0) (get_or ys k 0) (get_or cs k o.cost)
   zip_at [] ys cs o k p q r = absurd (not-suc-le-zero p)
   zip_at (x ∷ xs) [] cs o k p q r = absurd (not-suc-le-zero q)
   zip_at (x ∷ xs) (y ∷ ys) [] o k p q r = absurd (not-suc-le-zero r)

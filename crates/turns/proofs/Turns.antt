@@ -89,7 +89,8 @@ module _ {K C : Type 0} (Y : Kind K C) (m : ℕ) (target : Option ℕ) (source :
     pub inside : source < m
     -- it keeps it at the start and from turn to turn, and less is left
     pub first : Within (upto m) (begin (setting_of Y target source)) → keeps (begin (setting_of Y target source)) 0
-    pub again : {s s' : ℕ → Cell K} {t : ℕ} → keeps s t → Within (upto m) s → Next (setting_of Y target source) (RowArc m nb) s s' → Within (upto m) s' → keeps s' (suc t) × (left s' (suc t) < left s t)
+    pub again : {s s' : ℕ → Cell K} {t : ℕ} → keeps s t → Within (upto m) s → Next (setting_of Y target source) (RowArc m nb) s s' → Within (upto m) s' → keeps
+        s' (suc t) × (left s' (suc t) < left s t)
     -- the takes can be counted
     pub few : {s : ℕ → Cell K} {t : ℕ} → keeps s t → Within (upto m) s → t + 1 < 2 ^ 64
 

@@ -51,5 +51,6 @@ module _ {Arc : ℕ → ℕ → ℤ → Type 0} (h : ℕ → ℤ) where
       record {
         walk = unshift l.walk (omega (arith, zed, sum d (h v), sum (d ⊕ h v) (neg_ℤ (h s)), neg (h s), neg (h v), sum e (h s), sum (e ⊕ h s) (neg_ℤ (h v))));
         least =
-            λ t w. let k : d ≤ℤ t ⊕ h s ⊖ h v = l.least _ (shift w refl) in omega (arith, zed, sum d (h v), sum (d ⊕ h v) (neg_ℤ (h s)), neg (h s), neg (h v), sum t (h s), sum (t ⊕ h s) (neg_ℤ (h v)));
+            λ t w. let k : d ≤ℤ t ⊕ h s ⊖ h v = l.least _ (shift w refl) in
+            omega (arith, zed, sum d (h v), sum (d ⊕ h v) (neg_ℤ (h s)), neg (h s), neg (h v), sum t (h s), sum (t ⊕ h s) (neg_ℤ (h v)));
       }

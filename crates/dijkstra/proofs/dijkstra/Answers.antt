@@ -11,12 +11,14 @@ pub returns-then-refused-ne0 : goal.returns-then-refused-ne0
 returns-then-refused-ne0 c = refused _ _ _ _ c.refusal-refused.ensures c.if-refused-ne0.true
 
 pub most_arcs-a-requires : goal.most_arcs-a-requires
-most_arcs-a-requires c = let v = c.args in
+most_arcs-a-requires c =
+    let v = c.args in
     (whole_ints v.map.bound v.map.count v.map.directed v.marks.now v.from.now v.to.now v.costs.now
     (passed _ _ _ (sym c.refusal-refused.ensures ∙ c.if-refused-ne0.false)).whole).links
 
 pub solve-end-requires : goal.solve-end-requires
-solve-end-requires c = let p = passed _ _ _ (sym c.refusal-refused.ensures ∙ c.if-refused-ne0.false) in
+solve-end-requires c =
+    let p = passed _ _ _ (sym c.refusal-refused.ensures ∙ c.if-refused-ne0.false) in
     record {
       marks = c.args.marks.now;
       whole = p.whole;

@@ -11,7 +11,8 @@ pub returns-then-not-whole : goal.returns-then-not-whole
 returns-then-not-whole c = refused_limits _ _ _ (sym c.whole.ensures ∙ not-true _ c.if-not-whole.true-raw)
 
 pub most_arcs-a-requires : goal.most_arcs-a-requires
-most_arcs-a-requires c = let v = c.args in
+most_arcs-a-requires c =
+    let v = c.args in
     (whole_ints v.map.bound v.map.count v.map.directed v.marks.now v.from.now v.to.now v.costs.now (sym c.whole.ensures ∙ not-false _ c.if-not-whole.false-raw)).links
 
 pub returns-then-not-long_enough : goal.returns-then-not-long_enough
@@ -28,7 +29,8 @@ pub has_index-requires : goal.has_index-requires
 has_index-requires c = (whole _ _ _ _ (sym c.whole.ensures ∙ not-false _ c.if-not-whole.false-raw)).marked
 
 pub returns-then-not-has_index : goal.returns-then-not-has_index
-returns-then-not-has_index c = refused_unknown _ _ _ (sym c.whole.ensures ∙ not-false _ c.if-not-whole.false-raw) c.long_enough.ensures c.most_arcs-a.ensures (not-false _ c.if-not-long_enough.false-raw)
+returns-then-not-has_index c =
+    refused_unknown _ _ _ (sym c.whole.ensures ∙ not-false _ c.if-not-whole.false-raw) c.long_enough.ensures c.most_arcs-a.ensures (not-false _ c.if-not-long_enough.false-raw)
     (sym c.inside.ensures ∙ not-false _ c.if-not-inside.false-raw)
     (sym c.has_index.ensures ∙ not-true _ c.if-not-has_index.true-raw)
 

@@ -19,7 +19,8 @@ pub overflow_add-p : goal.overflow_add-p
 overflow_add-p c = omega (arith, count_most (present c.args.bound c.args.marks.now) c.loop-i.i)
 
 pub loop-i-preserved : goal.loop-i-preserved
-loop-i-preserved c = let l = c.loop-i in
+loop-i-preserved c =
+    let l = c.loop-i in
     let v = c.args in (
       omega arith,
       l.invariant.1,
@@ -30,7 +31,8 @@ loop-i-preserved c = let l = c.loop-i in
     )
 
 pub returns : goal.returns
-returns c = let l = c.loop-i in
+returns c =
+    let l = c.loop-i in
     let v = c.args in
     let e : l.i ≡ v.bound = omega arith in
     l.invariant.2 ∙ ap (λ (k : ℕ). length (rising (present v.bound v.marks.now) k)) e

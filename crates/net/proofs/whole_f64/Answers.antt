@@ -6,5 +6,6 @@ use Rattle.table.specs.Links.{lent_whole}
 use Rattle.net.proofs.whole_f64.Goals as goal
 
 pub returns : goal.returns
-returns c = let v = c.args in
+returns c =
+    let v = c.args in
     c.lent_whole.ensures ∙ ap (λ (k : ℕ). lent_whole v.map.bound v.map.count k v.marks.now) c.room_f64-most.ensures

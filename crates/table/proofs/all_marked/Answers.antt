@@ -12,7 +12,8 @@ pub loop-i-init : goal.loop-i-init
 loop-i-init c = (omega arith, omega arith, until_none (λ (k : ℕ). get_or c.args.marks.now k 0 ≡ 0 → ⊥) _)
 
 pub loop-i-preserved : goal.loop-i-preserved
-loop-i-preserved c = let v = c.args in
+loop-i-preserved c =
+    let v = c.args in
     let l = c.loop-i in
     (omega arith, l.invariant.1, until_more (λ (k : ℕ). get_or v.marks.now k 0 ≡ 0 → ⊥) l.i l.good _ l.invariant.2 (λ e. eqb-false _ _ (not-true _ e)))
 

@@ -9,7 +9,8 @@ pub returns-then-not-lent_whole : goal.returns-then-not-lent_whole
 returns-then-not-lent_whole c = sym (no_short _ _ _ _ _ (sym c.lent_whole.ensures ∙ not-true _ c.if-not-lent_whole.true-raw))
 
 pub all_inside-requires : goal.all_inside-requires
-all_inside-requires c = let w = whole _ _ _ _ (sym c.lent_whole.ensures ∙ not-false _ c.if-not-lent_whole.false-raw) in
+all_inside-requires c =
+    let w = whole _ _ _ _ (sym c.lent_whole.ensures ∙ not-false _ c.if-not-lent_whole.false-raw) in
     (w.marked, omega (arith, w.few, c.requires), omega (arith, w.few, c.requires))
 
 pub returns-then-not-all_inside : goal.returns-then-not-all_inside

@@ -14,7 +14,8 @@ pub returns-then-not-is_present-2 : goal.returns-then-not-is_present-2
 returns-then-not-is_present-2 c = sym (inside_stop_b c.loop-i.invariant.0 c.loop-i-test.true (sym c.is_present-in-loop-i.ensures ∙ not-true _ c.if-not-is_present-2.true-raw))
 
 pub loop-i-preserved : goal.loop-i-preserved
-loop-i-preserved c = let v = c.loop-i.invariant in
+loop-i-preserved c =
+    let v = c.loop-i.invariant in
     let h = c.loop-i-test.true in
     (v.0, omega arith, inside_step v.0 h v.2 (sym c.is_present.ensures ∙ not-false _ c.if-not-is_present.false-raw) (sym c.is_present-in-loop-i.ensures ∙ not-false _ c.if-not-is_present-2.false-raw))
 

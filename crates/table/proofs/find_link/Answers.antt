@@ -10,7 +10,8 @@ pub returns-then-same_link : goal.returns-then-same_link
 returns-then-same_link c = record { within = omega arith; before = c.loop-k.invariant.3; found = λ h. sym c.same_link.ensures ∙ c.if-same_link.true }
 
 pub loop-k-preserved : goal.loop-k-preserved
-loop-k-preserved c = let v = c.loop-k.invariant in
+loop-k-preserved c =
+    let v = c.loop-k.invariant in
     (v.0, v.1, omega arith, below_more _ _ v.3 (sym c.same_link.ensures ∙ c.if-same_link.false))
 
 pub returns : goal.returns

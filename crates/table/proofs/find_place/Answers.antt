@@ -10,7 +10,8 @@ use Rattle.table.proofs.find_place.Goals.{After-find_link-k}
 
 -- the table is refused
 pub returns-then-number-ne0 : goal.returns-then-number-ne0
-returns-then-number-ne0 c = let v = c.args in
+returns-then-number-ne0 c =
+    let v = c.args in
     let e = c.check_ends-number.ensures in
     c.refused.ensures
     ∙ (ap (λ (k : ℕ). place_now k v.map.count 0 false) e
@@ -21,13 +22,15 @@ ends_present-requires c = (whole _ _ _ _ (whole_of_no _ _ _ _ _ (sym c.check_end
 
 -- the record is
 pub returns-then-not-ends_present : goal.returns-then-not-ends_present
-returns-then-not-ends_present c = let v = c.args in
+returns-then-not-ends_present c =
+    let v = c.args in
     c.refused-then-not-ends_present.ensures
     ∙ place_outside v.map.directed v.map.bound v.room v.marks.now v.a v.b v.map.count (ends v.from.now v.to.now)
     (sym c.check_ends-number.ensures ∙ c.if-number-ne0.false) (sym c.ends_present.ensures ∙ not-true _ c.if-not-ends_present.true-raw)
 
 pub find_link-k-requires : goal.find_link-k-requires
-find_link-k-requires c = let w = whole _ _ _ _ (whole_of_no _ _ _ _ _ (sym c.check_ends-number.ensures ∙ c.if-number-ne0.false)) in
+find_link-k-requires c =
+    let w = whole _ _ _ _ (whole_of_no _ _ _ _ _ (sym c.check_ends-number.ensures ∙ c.if-number-ne0.false)) in
     (omega (arith, w.few, c.requires), omega (arith, w.few, c.requires))
 
 -- the place that the search found, over the ends

@@ -15,7 +15,8 @@ pub returns-then-not-all_below : goal.returns-then-not-all_below
 returns-then-not-all_below c = failed
 
 pub returns : goal.returns
-returns c = let v = c.args in
+returns c =
+    let v = c.args in
     λ e.
     plain {marks = v.marks.now} {xs = v.from.now} {ys = v.to.now} (record { marked = omega arith; in_from = omega arith; in_to = omega arith })
     (c.all_marked.ensures (not-false _ c.if-not-all_marked.false-raw)) (c.all_below.ensures (not-false _ c.if-not-all_below.false-raw)) (c.all_below-2.ensures e)

@@ -31,7 +31,8 @@ sees w =
 
 -- the room lies in the slices of ends
 pub find_place-p-requires : goal.find_place-p-requires
-find_place-p-requires c = let v = c.args in
+find_place-p-requires c =
+    let v = c.args in
     let r = room_ints_lem v.from.now v.to.now v.costs.now in
     let e = c.room-most.ensures in
     (omega (arith, e, r.in_from), omega (arith, e, r.in_to))
@@ -53,8 +54,10 @@ put_ends-requires c = (omega (arith, (slot (goal.at.put_ends-requires c).Then-p-
 
 -- stored
 pub returns-then-p-eq0 : goal.returns-then-p-eq0
-returns-then-p-eq0 c = let q = c.put_ends in
-    ap (λ (z : ℤ). ints_now (place (goal.at.returns-then-p-eq0 c).After-find_place-p).number (place (goal.at.returns-then-p-eq0 c).After-find_place-p).count q.new.from q.new.to (set c.args.costs.now (place (goal.at.returns-then-p-eq0 c).After-find_place-p).slot z)) (to_z-of_z w32 c.args.cost c.ranges.cost)
+returns-then-p-eq0 c =
+    let q = c.put_ends in
+    ap (λ (z : ℤ). ints_now (place (goal.at.returns-then-p-eq0 c).After-find_place-p).number (place (goal.at.returns-then-p-eq0 c).After-find_place-p).count
+    q.new.from q.new.to (set c.args.costs.now (place (goal.at.returns-then-p-eq0 c).After-find_place-p).slot z)) (to_z-of_z w32 c.args.cost c.ranges.cost)
     ∙ put_stored (sees (goal.at.returns-then-p-eq0 c).After-find_place-p) c.args.cost _ _ c.if-p-eq0.true q.ensures.0 q.ensures.1
 
 -- refused

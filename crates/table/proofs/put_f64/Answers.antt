@@ -27,7 +27,8 @@ sees w =
 
 -- the room lies in the slices of ends
 pub find_place-p-requires : goal.find_place-p-requires
-find_place-p-requires c = let v = c.args in
+find_place-p-requires c =
+    let v = c.args in
     let r = room_bits v.from.now v.to.now v.bits.now v.opens.now in
     let e = c.room_f64-most.ensures in
     (omega (arith, e, r.in_from), omega (arith, e, r.in_to))
@@ -52,7 +53,8 @@ put_ends-requires c = (omega (arith, (slot (goal.at.put_ends-requires c).Then-p-
 
 -- stored
 pub returns-then-p-eq0 : goal.returns-then-p-eq0
-returns-then-p-eq0 c = let v = c.args in
+returns-then-p-eq0 c =
+    let v = c.args in
     let q = c.put_ends in
     put_f64_stored (sees (goal.at.returns-then-p-eq0 c).After-find_place-p) v.pattern v.opened _ _ c.if-p-eq0.true q.ensures.0 q.ensures.1
 

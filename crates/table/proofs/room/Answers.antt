@@ -6,5 +6,6 @@ use Rattle.table.proofs.room.Goals as goal
 
 pub returns : goal.returns
 unfolding room_ints
-returns c = let v = c.args in
+returns c =
+    let v = c.args in
     c.smaller.ensures ∙ ap (λ (k : ℕ). shorter k (length v.costs.now)) c.room_ends.ensures

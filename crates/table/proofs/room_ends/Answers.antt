@@ -5,5 +5,6 @@ use Rattle.table.specs.Lent.{shorter}
 use Rattle.table.proofs.room_ends.Goals as goal
 
 pub returns : goal.returns
-returns c = let v = c.args in
+returns c =
+    let v = c.args in
     c.smaller-2.ensures ∙ ap (λ (k : ℕ). shorter k (length v.to.now)) c.smaller.ensures

@@ -14,7 +14,8 @@ pub overflow_add-m : goal.overflow_add-m
 overflow_add-m c = record { fits = omega (arith, c.requires.v_in_bounds, c.requires.peaks.few, length-set c.args.words.now c.args.v 0) }
 
 pub of_group-high-requires : goal.of_group-high-requires
-of_group-high-requires c = let long = length-set c.args.words.now c.args.v 0 in
+of_group-high-requires c =
+    let long = length-set c.args.words.now c.args.v 0 in
     let high = length-set c.args.peaks.now (c.args.v / 8) c.of_group-low.result in
     (omega (arith, c.requires.peaks.few, c.requires.peaks.same, long, high), omega (arith, c.requires.peaks.few, long), omega (arith, c.requires.v_in_bounds, c.requires.peaks.few))
 
@@ -25,7 +26,8 @@ pub offset_bounds-peaks-m : goal.offset_bounds-peaks-m
 offset_bounds-peaks-m c = record { fits = omega (arith, c.requires.v_in_bounds, c.requires.peaks.few, length-set c.args.words.now c.args.v 0) }
 
 pub bounds-peaks-m : goal.bounds-peaks-m
-bounds-peaks-m c = omega (arith, c.requires.v_in_bounds, c.requires.peaks.few, c.requires.peaks.same, length-set c.args.words.now c.args.v 0, length-set c.args.peaks.now (c.args.v / 8) c.of_group-low.result)
+bounds-peaks-m c =
+    omega (arith, c.requires.v_in_bounds, c.requires.peaks.few, c.requires.peaks.same, length-set c.args.words.now c.args.v 0, length-set c.args.peaks.now (c.args.v / 8) c.of_group-low.result)
 
 pub overflow_mul-v-3 : goal.overflow_mul-v-3
 overflow_mul-v-3 c = record { fits = omega (arith, c.requires.v_in_bounds, c.requires.peaks.few, length-set c.args.words.now c.args.v 0) }
@@ -40,7 +42,8 @@ pub overflow_add-m-4 : goal.overflow_add-m-4
 overflow_add-m-4 c = record { fits = omega (arith, c.requires.v_in_bounds, c.requires.peaks.few, length-set c.args.words.now c.args.v 0) }
 
 pub of_group-top-requires : goal.of_group-top-requires
-of_group-top-requires c = let long = length-set c.args.words.now c.args.v 0 in
+of_group-top-requires c =
+    let long = length-set c.args.words.now c.args.v 0 in
     let low = length-set c.args.peaks.now (c.args.v / 8) c.of_group-low.result in
     let high =
     length-set (set c.args.peaks.now (c.args.v / 8) c.of_group-low.result) (length (set c.args.words.now c.args.v 0) / 2 + c.args.v / 64) c.of_group-high.result in
@@ -56,7 +59,8 @@ pub offset_bounds-peaks-m-2 : goal.offset_bounds-peaks-m-2
 offset_bounds-peaks-m-2 c = record { fits = omega (arith, c.requires.v_in_bounds, c.requires.peaks.few, length-set c.args.words.now c.args.v 0) }
 
 pub bounds-peaks-m-2 : goal.bounds-peaks-m-2
-bounds-peaks-m-2 c = let low = length-set c.args.peaks.now (c.args.v / 8) c.of_group-low.result in
+bounds-peaks-m-2 c =
+    let low = length-set c.args.peaks.now (c.args.v / 8) c.of_group-low.result in
     let high = length-set (set c.args.peaks.now (c.args.v / 8) c.of_group-low.result) (length (set c.args.words.now c.args.v 0) / 2 + c.args.v / 64)
     c.of_group-high.result in
     omega (arith, c.requires.v_in_bounds, c.requires.peaks.few, c.requires.peaks.same, length-set c.args.words.now c.args.v 0, low, high)

@@ -13,7 +13,8 @@ pub offset_bounds-peaks-m : goal.offset_bounds-peaks-m
 offset_bounds-peaks-m c = record { fits = omega (arith, c.requires.v_in_bounds, c.requires.peaks.few, length-set c.args.words.now c.args.v 0) }
 
 pub bounds-peaks-m : goal.bounds-peaks-m
-bounds-peaks-m c = let peaks = c.args.peaks.now in
+bounds-peaks-m c =
+    let peaks = c.args.peaks.now in
     let words = c.args.words.now in
     let v = c.args.v in
     omega (arith, c.requires.v_in_bounds, c.requires.peaks.few, c.requires.peaks.same, length-set words v 0, length-set peaks (v / 8) 0)
@@ -28,7 +29,8 @@ pub offset_bounds-peaks-m-2 : goal.offset_bounds-peaks-m-2
 offset_bounds-peaks-m-2 c = record { fits = omega (arith, c.requires.v_in_bounds, c.requires.peaks.few, length-set c.args.words.now c.args.v 0) }
 
 pub bounds-peaks-m-2 : goal.bounds-peaks-m-2
-bounds-peaks-m-2 c = let peaks = c.args.peaks.now in
+bounds-peaks-m-2 c =
+    let peaks = c.args.peaks.now in
     let words = c.args.words.now in
     let v = c.args.v in
     let high = length-set (set peaks (v / 8) 0) (length (set words v 0) / 2 + v / 64) 0 in

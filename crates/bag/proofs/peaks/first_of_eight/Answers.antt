@@ -6,7 +6,8 @@ use Rattle.bag.proofs.Firsts.{first_none, first_step}
 use Rattle.bag.proofs.peaks.first_of_eight.Goals as goal
 
 pub returns : goal.returns
-returns c = let l = c.args.list.now in
+returns c =
+    let l = c.args.list.now in
     let i = c.args.i in
     let w = c.args.w in
     let g = first_step l (i + 6) 0 w (i + 7) _ _ (omega arith) (sym (first_none l (i + 7) w)) c.sooner-g.ensures in

@@ -16,10 +16,12 @@ pub loop-k-smaller : goal.loop-k-smaller
 loop-k-smaller c = omega (arith, c.loop-k-test.true)
 
 pub loop-k-preserved : goal.loop-k-preserved
-loop-k-preserved c = let more = c.loop-k-test.true in
+loop-k-preserved c =
+    let more = c.loop-k-test.true in
     (omega (arith, more), omega (arith, c.loop-k.invariant.1), rest_more _ _ _ _ _ _ (omega (arith, more)) c.loop-k.invariant.1 c.loop-k.invariant.2 c.sooner-r.ensures)
 
 pub returns : goal.returns
-returns c = let e : c.loop-k.k ≡ c.args.i = omega (arith, c.loop-k.invariant.0, c.loop-k-test.false) in
+returns c =
+    let e : c.loop-k.k ≡ c.args.i = omega (arith, c.loop-k.invariant.0, c.loop-k-test.false) in
     let r = c.loop-k.invariant.2 ∙ ap (λ (k : ℕ). first_from c.args.list.now k (c.args.end - k) c.args.w) e in
     rw r (first_rest _ _ _ _ c.requires.w_value.0 c.requires.w_value.1)

@@ -6,9 +6,11 @@ use Rattle.bag.specs.Peaks.{peak, span}
 use Rattle.bag.proofs.peaks.of_group.Goals as goal
 
 pub returns-then-i-end : goal.returns-then-i-end
-returns-then-i-end c = let e : 8 ≡ span c.args.i c.args.end = omega (arith, c.if-i-end.true) in
+returns-then-i-end c =
+    let e : 8 ≡ span c.args.i c.args.end = omega (arith, c.if-i-end.true) in
     c.of_eight.ensures ∙ ap (peak c.args.list.now c.args.i) e
 
 pub returns : goal.returns
-returns c = let e : c.args.end - c.args.i ≡ span c.args.i c.args.end = omega (arith, c.if-i-end.false) in
+returns c =
+    let e : c.args.end - c.args.i ≡ span c.args.i c.args.end = omega (arith, c.if-i-end.false) in
     c.of_rest.ensures ∙ ap (peak c.args.list.now c.args.i) e

@@ -20,5 +20,6 @@ pub lift-requires-3 : goal.lift-requires-3
 lift-requires-3 c = omega (arith, c.requires.v_in_bounds.0, c.requires.peaks.few, c.requires.peaks.same, c.lift-2.auto, c.lift.auto, length-set c.args.words.now c.args.v c.args.w)
 
 pub note-requires : goal.note-requires
-note-requires c = let same = length-set c.args.words.now c.args.v c.args.w in
+note-requires c =
+    let same = length-set c.args.words.now c.args.v c.args.w in
     peaks_raised _ _ _ _ _ _ _ _ c.requires.peaks c.requires.v_in_bounds.0 c.requires.v_in_bounds.1 same c.lift.ensures c.lift-2.ensures c.lift-3.ensures

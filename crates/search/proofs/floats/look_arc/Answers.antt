@@ -26,15 +26,25 @@ module _ (n : After-set_pred) where
   worth-it = not-false _ n.if-not-better.false-raw
 
 pub better-requires : goal.better-requires
-better-requires c = record { dist64 = sum_dist c.args.d c.args.bits c.plus-next.ensures c.requires.dist c.requires.cost; stored = entry_stored c.args.dist.now c.args.v c.requires.in_d c.requires.entry }
+better-requires c =
+    record { dist64 = sum_dist c.args.d c.args.bits c.plus-next.ensures c.requires.dist c.requires.cost; stored = entry_stored c.args.dist.now c.args.v c.requires.in_d c.requires.entry }
 
 pub returns-then-not-better : goal.returns-then-not-better
 returns-then-not-better c = arc_left (test (goal.at.returns-then-not-better c).After-better) (not-true _ c.if-not-better.true-raw)
 
 pub push_or_lower-requires : goal.push_or_lower-requires
-push_or_lower-requires c = let e = c.plus-next.ensures in
-    record { bag = c.requires.bag; v_in_bounds = c.requires.in_b; not_above = arc_lower (test (goal.at.push_or_lower-requires c).After-better) (worth-it (goal.at.push_or_lower-requires c).After-set_pred) e e c.requires; ok = sum_dist c.args.d c.args.bits e c.requires.dist c.requires.cost }
+push_or_lower-requires c =
+    let e = c.plus-next.ensures in
+    record {
+      bag = c.requires.bag;
+      v_in_bounds = c.requires.in_b;
+      not_above = arc_lower (test (goal.at.push_or_lower-requires c).After-better)
+          (worth-it (goal.at.push_or_lower-requires c).After-set_pred) e e c.requires;
+      ok = sum_dist c.args.d c.args.bits e c.requires.dist c.requires.cost;
+    }
 
 pub returns : goal.returns
-returns c = let e = c.plus-next.ensures in
-    arc_stored (test (goal.at.returns c).After-better) (worth-it (goal.at.returns c).After-set_pred) e e c.store.ensures c.set_pred.ensures (c.push_or_lower.ensures.bag_2, c.push_or_lower.ensures.keys_after)
+returns c =
+    let e = c.plus-next.ensures in
+    arc_stored (test (goal.at.returns c).After-better) (worth-it (goal.at.returns c).After-set_pred) e e c.store.ensures c.set_pred.ensures
+    (c.push_or_lower.ensures.bag_2, c.push_or_lower.ensures.keys_after)

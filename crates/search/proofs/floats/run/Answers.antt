@@ -8,7 +8,8 @@ pub search-requires : goal.search-requires
 search-requires c = record { sound = c.requires.sound; source_lt_m = c.requires.source_lt_m; fresh = fresh (kind64 c.args.limit) c.requires.enough_memory c.clear.ensures c.requires.sound.bounded }
 
 pub returns : goal.returns
-returns c = ran (kind64 c.args.limit) c.requires.enough_memory c.clear.ensures _ _ _ _ _ c.search.auto.dist c.search.auto.preds c.search.auto.peaks c.search.auto.words c.search.auto.keys c.search.ensures
+returns c =
+    ran (kind64 c.args.limit) c.requires.enough_memory c.clear.ensures _ _ _ _ _ c.search.auto.dist c.search.auto.preds c.search.auto.peaks c.search.auto.words c.search.auto.keys c.search.ensures
 
 pub slice_bounds-search-end-2 : goal.slice_bounds-search-end-2
 slice_bounds-search-end-2 c = (parts (kind64 c.args.limit) c.requires.enough_memory c.clear.ensures).dist

@@ -36,16 +36,23 @@ pub overflow_add-takes : goal.overflow_add-takes
 overflow_add-takes c = omega (arith, takes_fit (path (goal.at.overflow_add-takes c).Start) c.loop-size.invariant)
 
 pub look_row-t-requires : goal.look_row-t-requires
-look_row-t-requires c = opens (path (goal.at.look_row-t-requires c).Start) c.loop-size.invariant (c.take_least-u.ensures.least, (c.take_least-u.ensures.bag_2, c.take_least-u.ensures.keys_after)) c.take_least-u.auto.words
+look_row-t-requires c =
+    opens (path (goal.at.look_row-t-requires c).Start) c.loop-size.invariant (c.take_least-u.ensures.least, (c.take_least-u.ensures.bag_2, c.take_least-u.ensures.keys_after)) c.take_least-u.auto.words
 
 pub returns-then-t : goal.returns-then-t
-returns-then-t c = stops (path (goal.at.returns-then-t c).Start) c.loop-size.invariant (c.take_least-u.ensures.least, (c.take_least-u.ensures.bag_2, c.take_least-u.ensures.keys_after)) c.take_least-u.auto.words refl c.look_row-t.ensures c.if-t.true refl refl
+returns-then-t c =
+    stops (path (goal.at.returns-then-t c).Start) c.loop-size.invariant
+    (c.take_least-u.ensures.least, (c.take_least-u.ensures.bag_2, c.take_least-u.ensures.keys_after)) c.take_least-u.auto.words refl c.look_row-t.ensures c.if-t.true refl refl
 
 pub loop-size-smaller : goal.loop-size-smaller
-loop-size-smaller c = falls (path (goal.at.loop-size-smaller c).Start) c.loop-size.invariant (c.take_least-u.ensures.least, (c.take_least-u.ensures.bag_2, c.take_least-u.ensures.keys_after)) c.take_least-u.auto.words refl c.look_row-t.ensures c.if-t.false
+loop-size-smaller c =
+    falls (path (goal.at.loop-size-smaller c).Start) c.loop-size.invariant
+    (c.take_least-u.ensures.least, (c.take_least-u.ensures.bag_2, c.take_least-u.ensures.keys_after)) c.take_least-u.auto.words refl c.look_row-t.ensures c.if-t.false
 
 pub loop-size-preserved : goal.loop-size-preserved
-loop-size-preserved c = next (path (goal.at.loop-size-preserved c).Start) c.loop-size.invariant (c.take_least-u.ensures.least, (c.take_least-u.ensures.bag_2, c.take_least-u.ensures.keys_after)) c.take_least-u.auto.words refl c.look_row-t.ensures c.if-t.false
+loop-size-preserved c =
+    next (path (goal.at.loop-size-preserved c).Start) c.loop-size.invariant
+    (c.take_least-u.ensures.least, (c.take_least-u.ensures.bag_2, c.take_least-u.ensures.keys_after)) c.take_least-u.auto.words refl c.look_row-t.ensures c.if-t.false
 
 pub returns : goal.returns
 returns c = rests (path (goal.at.returns c).Start) c.loop-size.invariant c.loop-size-test.false refl refl

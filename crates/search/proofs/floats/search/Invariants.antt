@@ -12,7 +12,9 @@ use Rattle.search.proofs.Courses.{Keeps64}
 use Rattle.search.proofs.floats.search.Given as goal
 
 abbrev pub invariant-loop-size : goal.invariant-loop-size
-invariant-loop-size l = Head (kind64 l.limit) l.m none l.source (lists_of l.offsets l.heads l.weights) (Keeps64 l.limit l.m l.source (lists_of l.offsets l.heads l.weights)) (memory_of l.dist l.preds l.peaks l.words l.keys) l.size l.takes
+invariant-loop-size l =
+    Head (kind64 l.limit) l.m none l.source (lists_of l.offsets l.heads l.weights) (Keeps64 l.limit l.m l.source (lists_of l.offsets l.heads l.weights))
+    (memory_of l.dist l.preds l.peaks l.words l.keys) l.size l.takes
 
 abbrev pub decreases-loop-size : goal.decreases-loop-size
 decreases-loop-size l = l.m - l.takes

@@ -16,7 +16,8 @@ sum_is : (d g : ℤ) → SFits w64 d → SFits w64 g → to_z w64 (of_z w64 d) +
 sum_is d g e f = λ i. to_z-of_z w64 d e i +ℤ to_z-of_z w64 g f i
 
 pub overflow_add-result : goal.overflow_add-result
-overflow_add-result c = let e = sum_is c.args.d (get_or c.args.guess.now c.args.v (pos 0)) c.ranges.d (sfits_of c.result-1.given) in
+overflow_add-result c =
+    let e = sum_is c.args.d (get_or c.args.guess.now c.args.v (pos 0)) c.ranges.d (sfits_of c.result-1.given) in
     subst (SFits w64) (sym e) (key_fits c.args.guess.now c.args.d c.args.v c.requires.fair c.requires.pos_bound.0 c.requires.pos_bound.1)
 
 pub returns-then-v-guess : goal.returns-then-v-guess

@@ -52,11 +52,27 @@ pub returns-then-not-better : goal.returns-then-not-better
 returns-then-not-better c = arc_left (test (goal.at.returns-then-not-better c).After-better) (not-true _ c.if-not-better.true-raw)
 
 pub key-k-requires : goal.key-k-requires
-key-k-requires c = record { fair = c.requires.in_range.fair; pos_bound = subst (λ (z : ℤ). (pos 0 ≤ℤ z) × (z ≤ℤ pos (far + dear))) (sym (n-is (goal.at.key-k-requires c).After-better)) (sum_small c.requires.safe.dist c.requires.safe.cost c.requires.in_range) }
+key-k-requires c =
+    record {
+      fair = c.requires.in_range.fair;
+      pos_bound = subst (λ (z : ℤ). (pos 0 ≤ℤ z) × (z ≤ℤ pos (far + dear)))
+          (sym (n-is (goal.at.key-k-requires c).After-better)) (sum_small c.requires.safe.dist c.requires.safe.cost c.requires.in_range);
+    }
 
 pub push_or_lower-requires : goal.push_or_lower-requires
-push_or_lower-requires c = record { bag = c.requires.safe.bag; v_in_bounds = c.requires.safe.in_b; not_above = arc_lower (test (goal.at.push_or_lower-requires c).After-better) (worth-it (goal.at.push_or_lower-requires c).After-key-k) (n-is (goal.at.push_or_lower-requires c).After-better) (k-is (goal.at.push_or_lower-requires c).After-key-k) c.requires.safe; ok = subst Near (sym (k-is (goal.at.push_or_lower-requires c).After-key-k)) (sum_near c.requires.safe.dist c.requires.safe.cost c.requires.in_range) }
+push_or_lower-requires c =
+    record {
+      bag = c.requires.safe.bag;
+      v_in_bounds = c.requires.safe.in_b;
+      not_above = arc_lower (test (goal.at.push_or_lower-requires c).After-better)
+          (worth-it (goal.at.push_or_lower-requires c).After-key-k) (n-is (goal.at.push_or_lower-requires c).After-better)
+          (k-is (goal.at.push_or_lower-requires c).After-key-k) c.requires.safe;
+      ok = subst Near (sym (k-is (goal.at.push_or_lower-requires c).After-key-k))
+          (sum_near c.requires.safe.dist c.requires.safe.cost c.requires.in_range);
+    }
 
 pub returns : goal.returns
-returns c = arc_stored (test (goal.at.returns c).After-better) (worth-it (goal.at.returns c).After-key-k) (n-is (goal.at.returns c).After-better) (k-is (goal.at.returns c).After-key-k) c.store.ensures c.set_pred.ensures
+returns c =
+    arc_stored (test (goal.at.returns c).After-better) (worth-it (goal.at.returns c).After-key-k) (n-is (goal.at.returns c).After-better)
+    (k-is (goal.at.returns c).After-key-k) c.store.ensures c.set_pred.ensures
     (c.push_or_lower.ensures.bag_2, c.push_or_lower.ensures.keys_after)

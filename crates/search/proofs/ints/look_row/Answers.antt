@@ -34,7 +34,9 @@ pub loop-i-init : goal.loop-i-init
 loop-i-init c = row_first (lawful c.args.guess.now) c.requires.opens.good
 
 pub returns-then-below_zero : goal.returns-then-below_zero
-returns-then-below_zero c = row_stops (lawful c.args.guess.now) c.requires.opens (pos 0) (d-is (goal.at.returns-then-below_zero c).At-loop-i) c.loop-i.invariant c.loop-i-test.true refl (pos 0) refl c.below_zero.ensures c.if-below_zero.true refl
+returns-then-below_zero c =
+    row_stops (lawful c.args.guess.now) c.requires.opens (pos 0) (d-is (goal.at.returns-then-below_zero c).At-loop-i) c.loop-i.invariant c.loop-i-test.true refl
+    (pos 0) refl c.below_zero.ensures c.if-below_zero.true refl
 
 pub offset_bounds-heads-i : goal.offset_bounds-heads-i
 offset_bounds-heads-i c = let h = in-heads (goal.at.offset_bounds-heads-i c).In-loop-i in search rules
@@ -43,8 +45,14 @@ pub offset_bounds-weights-i : goal.offset_bounds-weights-i
 offset_bounds-weights-i c = let h = in-weights (goal.at.offset_bounds-weights-i c).In-loop-i in search rules
 
 pub look_arc-size-requires : goal.look_arc-size-requires
-look_arc-size-requires c = let ci = to_z-of_z w64 _ (sfits_of c.look_arc-arg-1.given) in
-    record { safe = row_safe (lawful c.args.guess.now) c.requires.opens (pos 0) (d-is (goal.at.look_arc-size-requires c).At-loop-i) c.loop-i.invariant c.loop-i-test.true refl (pos 0) ci c.below_zero.ensures c.if-below_zero.false; in_range = arc_near c.args.guess.now c.requires.opens (d-is (goal.at.look_arc-size-requires c).At-loop-i) c.loop-i.invariant c.loop-i-test.true refl ci c.below_zero.ensures c.requires.row_in_range }
+look_arc-size-requires c =
+    let ci = to_z-of_z w64 _ (sfits_of c.look_arc-arg-1.given) in
+    record {
+      safe = row_safe (lawful c.args.guess.now) c.requires.opens (pos 0) (d-is (goal.at.look_arc-size-requires c).At-loop-i) c.loop-i.invariant
+          c.loop-i-test.true refl (pos 0) ci c.below_zero.ensures c.if-below_zero.false;
+      in_range = arc_near c.args.guess.now c.requires.opens
+          (d-is (goal.at.look_arc-size-requires c).At-loop-i) c.loop-i.invariant c.loop-i-test.true refl ci c.below_zero.ensures c.requires.row_in_range;
+    }
 
 pub overflow_add-i : goal.overflow_add-i
 overflow_add-i c = omega (arith, c.loop-i-test.true, c.shared_slice_known-3-1.given (c.args.u + 1))

@@ -10,7 +10,9 @@ use Rattle.search.specs.Ints.{guided}
 use Rattle.search.proofs.ints.look_row.Given as goal
 
 abbrev pub invariant-loop-i : goal.invariant-loop-i
-invariant-loop-i l = Row (guided l.guess) l.m (lists_of l.offsets l.heads l.weights) l.u (l.d) l.i l.size (memory_of l.initial.dist l.initial.preds l.initial.peaks l.initial.words l.initial.keys) (memory_of l.dist l.preds l.peaks l.words l.keys)
+invariant-loop-i l =
+    Row (guided l.guess) l.m (lists_of l.offsets l.heads l.weights) l.u (l.d) l.i l.size
+    (memory_of l.initial.dist l.initial.preds l.initial.peaks l.initial.words l.initial.keys) (memory_of l.dist l.preds l.peaks l.words l.keys)
 
 abbrev pub decreases-loop-i : goal.decreases-loop-i
 decreases-loop-i l = l.end - l.i

@@ -8,7 +8,8 @@ pub search-requires : goal.search-requires
 search-requires c = record { fit = c.requires.fit; fresh = fresh (guided c.args.guess.now) c.requires.enough_memory c.clear.ensures c.requires.fit.rows.bounded }
 
 pub returns : goal.returns
-returns c = ran (guided c.args.guess.now) c.requires.enough_memory c.clear.ensures _ _ _ _ _ c.search.auto.dist c.search.auto.preds c.search.auto.peaks c.search.auto.words c.search.auto.keys c.search.ensures
+returns c =
+    ran (guided c.args.guess.now) c.requires.enough_memory c.clear.ensures _ _ _ _ _ c.search.auto.dist c.search.auto.preds c.search.auto.peaks c.search.auto.words c.search.auto.keys c.search.ensures
 
 pub slice_bounds-search-end-2 : goal.slice_bounds-search-end-2
 slice_bounds-search-end-2 c = (parts (guided c.args.guess.now) c.requires.enough_memory c.clear.ensures).dist

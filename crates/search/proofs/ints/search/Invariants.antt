@@ -10,7 +10,9 @@ use Rattle.search.proofs.Courses.{Keeps, to_do}
 use Rattle.search.proofs.ints.search.Given as goal
 
 abbrev pub invariant-loop-size : goal.invariant-loop-size
-invariant-loop-size l = Head (guided l.guess) l.m (target_of l.m l.target) l.source (lists_of l.offsets l.heads l.weights) (Keeps (asked_of l.m l.source l.target l.guess) (lists_of l.offsets l.heads l.weights)) (memory_of l.dist l.preds l.peaks l.words l.keys) l.size
+invariant-loop-size l =
+    Head (guided l.guess) l.m (target_of l.m l.target) l.source (lists_of l.offsets l.heads l.weights)
+    (Keeps (asked_of l.m l.source l.target l.guess) (lists_of l.offsets l.heads l.weights)) (memory_of l.dist l.preds l.peaks l.words l.keys) l.size
     l.takes
 
 abbrev pub decreases-loop-size : goal.decreases-loop-size

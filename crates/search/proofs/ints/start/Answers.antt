@@ -25,10 +25,18 @@ module _ (k : After-key-k) where
   k-is = to_z-of_z w64 _ (sfits_of k.key-k.type_inv) ∙ k.key-k.ensures
 
 pub push_or_lower-requires : goal.push_or_lower-requires
-push_or_lower-requires c = record { bag = empty_bag c.requires.fresh; v_in_bounds = c.requires.source_in_bounds; not_above = empty_lower c.requires.fresh c.args.source _; ok = subst Near (sym (k-is (goal.at.push_or_lower-requires c).After-key-k)) (key_near _ (pos 0) _ c.requires.fair (omega (arith, zed)) (omega (arith, zed))) }
+push_or_lower-requires c =
+    record {
+      bag = empty_bag c.requires.fresh;
+      v_in_bounds = c.requires.source_in_bounds;
+      not_above = empty_lower c.requires.fresh c.args.source _;
+      ok = subst
+          Near (sym (k-is (goal.at.push_or_lower-requires c).After-key-k)) (key_near _ (pos 0) _ c.requires.fair (omega (arith, zed)) (omega (arith, zed)));
+    }
 
 pub returns : goal.returns
-returns c = let p = c.push_or_lower in
+returns c =
+    let p = c.push_or_lower in
     record {
       dist = c.store.ensures;
       preds = c.set_pred.ensures;
