@@ -144,6 +144,7 @@ in_end : {x v : ℕ} (l : List ℕ) → In x (l ++ (v ∷ [])) → In x l ⊎ (x
 in_end [] (here e) = inr e
 in_end (y ∷ l) (here e) = inl (here e)
 in_end (y ∷ l) (there i) = ⊎_elim (λ j. inl (there j)) (λ e. inr e) (in_end l i)
+in_end {v = v} [] (there i) = elim i [ ]
 
 -- a list turned round has the same members
 in_back : {x : ℕ} (l : List ℕ) → In x (reverse l) → In x l

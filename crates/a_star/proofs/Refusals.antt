@@ -26,7 +26,7 @@ use Rattle.rows.proofs.Kept.{has_lists_lem}
 use Rattle.search.specs.Ints.{Fair}
 use Rattle.turns.specs.Firsts.{EnoughMemory}
 use Rattle.search.proofs.Lists.{has_memory_lem}
-use Rattle.a_star.specs.Promise.{Question, Buffers, long_enough, enough, is_fair, fair_at, fair_below, fair_guess, Fine, no_path, table, Promise}
+use Rattle.a_star.specs.Promise.{Question, Buffers, long_enough, is_fair, fair_at, fair_below, fair_guess, Fine, no_path, table, Promise}
 use Rattle.a_star.specs.Parts.{question_no, refusal_no, without}
 
 -- ---- the heuristic

@@ -37,7 +37,8 @@ back_passed {pred = pred} (via u n p k c) (next u' n' p' b) q =
     λ i. q i ∷ r i
 
 -- what the literal bag ends in, with a cost and a way back, is the answer
-pub by_bag : {g : Net ℤ} {q : Question} {b e : Buffers} {r : Answer} → Promise g q b e r → Fine g q b → (x : End ℤ) → Lit.Ends (search_of q) (rows_of g) (Lit.start (search_of q)) x → (d : ℤ) (l : List ℕ)
+pub by_bag : {g : Net ℤ} {q : Question} {b e : Buffers} {r : Answer} → Promise g q b e r → Fine g q b → (x : End ℤ)
+    → Lit.Ends (search_of q) (rows_of g) (Lit.start (search_of q)) x → (d : ℤ) (l : List ℕ)
     → x.number ≡ 0 → x.dist q.target ≡ some d → Back x.pred q.source q.target l
     → (r ≡ answer_of 0 d (length (reverse l))) × (path_in e r ≡ reverse l)
 by_bag {g} {q} {b} {e} {r} promise w x y d l z n k = go (subst (λ (u : End ℤ). Says (ArcOf g) q u o.cost o.path) end o.says)

@@ -1,6 +1,7 @@
 -- What `a_star` promises.
 -- Assumes nothing.
-use Rattle.std.specs.Prelude.{◌≡◌, Bool, true, not, ◌&&◌, ◌||◌, List, [], ◌∷◌, ◌++◌, reverse, ℕ, zero, suc, ◌-◌, ◌^◌, leb, ℤ, pos, negsuc, length, get_or, drop}
+use Rattle.std.specs.Prelude.{◌≡◌, Bool, true, not, ◌&&◌, ◌||◌, List, [], ◌∷◌, ◌++◌, reverse, ℕ, zero, suc, ◌-◌, ◌^◌, leb, ℤ, pos}
+use Rattle.std.specs.Prelude.{negsuc, length, get_or, drop}
 use Rattle.std.proofs.Math.Option.{none, some}
 use Rattle.std.specs.Int.Signed.{le_z}
 use Rattle.numbers.specs.Numbers.{Row, row, done, fails, holds, Follows}

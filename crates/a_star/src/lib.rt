@@ -1,4 +1,6 @@
 // A path from a source to a target by a heuristic.
+#![tactic(auto)]
+
 ghost use Rattle.std.specs.Prelude.{true, false, ◌≡◌, ◌≤◌, ◌<◌, pos, length, get_or};
 ghost use Rattle.table.specs.Links.{present, links, Arc};
 ghost use Rattle.clean.specs.None.{none_i64};

@@ -1,6 +1,7 @@
 -- A table of links as a list: presence, refusals 1 and 2, the place where a record goes, and arcs. Once for any type C of a link's cost.
 -- Assumes nothing.
-use Rattle.std.specs.Prelude.{◌≡◌, Bool, true, false, cond, not, ◌&&◌, ◌||◌, List, [], ◌∷◌, ◌++◌, ◌⊎◌, ℕ, ◌+◌, ◌≤◌, ◌<◌, ltb, leb, eqb, length, take, get_or}
+use Rattle.std.specs.Prelude.{◌≡◌, Bool, true, false, cond, not, ◌&&◌, ◌||◌, List, [], ◌∷◌, ◌++◌, ◌⊎◌, ℕ, ◌+◌, ◌≤◌, ◌<◌, ltb, leb}
+use Rattle.std.specs.Prelude.{eqb, length, take, get_or}
 
 -- a link, a record that is put, and an arc (from a to b); C is the type of its cost
 pub record Link (C : Type 0) : Type 0 where

@@ -3,7 +3,8 @@
 ghost use Rattle.std.specs.Prelude.{true, false, ◌≡◌, ℕ, ◌+◌, ◌-◌, ◌≤◌, ◌<◌, length, get_or, take};
 ghost use Rattle.table.specs.Links.{present, present_both, lent_whole, all_inside, ends, table_no};
 ghost use Rattle.table.specs.Links.{same_pair, joins_ends, FirstPlace, place_now, placing, link_of};
-ghost use Rattle.table.specs.Lent.{shorter, room_ends, room_ints, room_floats, written, ints_now, put_ints, floats_now, raw_cost, put_floats};
+ghost use Rattle.table.specs.Lent.{shorter, room_ends, room_ints, room_floats, written, ints_now, put_ints, floats_now, raw_cost};
+ghost use Rattle.table.specs.Lent.{put_floats};
 
 // The scalars of a lent map.
 #[derive(Clone, Copy)]
