@@ -1,5 +1,7 @@
 // The f64 search: the pending bag over a neighbour list of open arcs, with a cutoff.
 // Distances and keys are lent as patterns, so that the promise settles every bit of them; none is the pattern of -1.0.
+#![tactic(auto)]
+
 ghost use Rattle.std.specs.Prelude.{◌≡◌, ◌≤◌, ◌<◌, length};
 ghost use Rattle.clean.specs.Fill.{filled};
 ghost use Rattle.clean.specs.None.{none_f64, none_u32};
