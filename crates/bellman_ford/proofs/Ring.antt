@@ -58,6 +58,7 @@ tab_length f (suc n) = ap suc (tab_length f n)
 tab_in : (f : ℕ → ℕ) (n x : ℕ) → In x (tab f n) → (i : ℕ) × (i < n) × (x ≡ f i)
 tab_in f (suc n) x (here e) = (n, omega arith, e)
 tab_in f (suc n) x (there j) = let r = tab_in f n x j in (r.0, omega (arith, r.1), r.2)
+tab_in f zero x i = elim i [ ]
 
 tab_nodup : (f : ℕ → ℕ) (n : ℕ) → ((i j : ℕ) → i < j → j < n → f i ≡ f j → ⊥) → NoDup (tab f n)
 tab_nodup f zero g = tt

@@ -22,7 +22,7 @@ use Rattle.whole.specs.Zed.{◌⊕◌, zed}
 use Rattle.clean.specs.None.{none_i64}
 use Rattle.walks.specs.Pigeon.{In}
 use Rattle.walks.specs.Walk.{NoNeg, Total}
-use Rattle.walks.specs.Hist.{At, at_here, begin, Low, Hist}
+use Rattle.walks.specs.Hist.{At, at_here, at_there, begin, Low, Hist}
 use Rattle.walks.proofs.Labels.{no_neg, labels_least, no_label}
 use Rattle.walks.proofs.Fall.{walked}
 use Rattle.rows.specs.Rows.{Lists}
@@ -134,12 +134,14 @@ module _ {m p s : ℕ} {nb : Lists ℤ} {M : Memory} (fit : Fit m p s nb) (f : F
     where
       go : (l : List ℕ) → In s l → 0 < length l
       go (x ∷ l) i = omega arith
+      go [] i = elim i [ ]
 
   start : Hist (RowArc m nb) s (Label m l₁) s (pos 0) 0
   start = record { h = []; trail = begin refl; arcs = refl; low = now }
     where
       now : (x : ℕ) (a : ℤ) → At x a (record { ix = s; had = pos 0 } ∷ []) → Low (Label m l₁) x a
       now x a (at_here q e) = (pos 0, subst (λ (y : ℕ). Label m l₁ y (pos 0)) (sym q) source_label, omega (arith, zed))
+      now x a (at_there i) = elim i [ ]
 
   source_good : Good m p s nb l₁ M.lengths
   source_good = record {

@@ -1,4 +1,6 @@
 // Shortest walks from one source over signed costs, with a queue of the indices whose distance just fell.
+#![tactic(auto)]
+
 ghost use Rattle.std.specs.Prelude.{◌≡◌, true, false, ◌≤◌, ◌<◌, pos, length, get_or, set};
 ghost use Rattle.clean.specs.Fill.{filled};
 ghost use Rattle.clean.specs.Better.{better_than};

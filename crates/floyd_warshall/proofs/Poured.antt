@@ -54,7 +54,8 @@ ends_present_lem m zero e marks xs ys cs h a b c i = absurd (not-suc-le-zero h)
 ends_present_lem m (suc n) e marks [] ys cs h a b c i = absurd (not-suc-le-zero a)
 ends_present_lem m (suc n) e marks (x ∷ xs) [] cs h a b c i = absurd (not-suc-le-zero b)
 ends_present_lem m (suc n) e marks (x ∷ xs) (y ∷ ys) [] h a b c i = absurd (not-suc-le-zero c)
-ends_present_lem m (suc n) zero marks (x ∷ xs) (y ∷ ys) (z ∷ cs) h a b c i = let k = and_left (inside m marks (link_of x y z)) _ i in (and_left (present m marks x) _ k, and_right (present m marks x) _ k)
+ends_present_lem m (suc n) zero marks (x ∷ xs) (y ∷ ys) (z ∷ cs) h a b c i =
+    let k = and_left (inside m marks (link_of x y z)) _ i in (and_left (present m marks x) _ k, and_right (present m marks x) _ k)
 ends_present_lem m (suc n) (suc e) marks (x ∷ xs) (y ∷ ys) (z ∷ cs) h a b c i =
     ends_present_lem m n e marks xs ys cs (le_of_suc-le-suc h) (le_of_suc-le-suc a) (le_of_suc-le-suc b) (le_of_suc-le-suc c) (and_right (inside m marks (link_of x y z)) _ i)
 
@@ -164,7 +165,8 @@ module _ (d : Bool) (p : ℕ) (r : List ℕ) where
       let b : cell p l' i j ≤ℤ cell p l i j = linked_le p l _ _ _ s w.0 w.1 d i j k in
       omega (arith, zed)
 
-  pub poured_low : (xs : List (Link ℤ)) (l : List ℤ) → RowsBelow xs → length l ≡ p * p → (u v : ℕ) (c : ℤ) → get_or r v 0 < p → Arc d xs u v c → cell p (poured d p r xs l) (get_or r u 0) (get_or r v 0) ≤ℤ c
+  pub poured_low : (xs : List (Link ℤ)) (l : List ℤ) → RowsBelow xs → length l ≡ p * p → (u v : ℕ) (c : ℤ) → get_or r v 0 < p → Arc d xs u v c
+      → cell p (poured d p r xs l) (get_or r u 0) (get_or r v 0) ≤ℤ c
   poured_low [] l w s u v c k a = absurd a
   poured_low (x ∷ xs) l w s u v c k (inr a) = poured_low xs _ w.2 (linked_size p l _ _ _ s w.0 w.1 d) u v c k a
   poured_low (x ∷ xs) l w s u v c k (inl a) =

@@ -194,9 +194,17 @@ module _ {Arc : ℕ → ℕ → ℤ → Type 0} {L : List ℕ} (R : Rowed Arc L)
           let z : pos 0 ≤ℤ after A (length L) i i = U (length L) i (omega arith) h in
           omega (arith, zed)
 
+      -- a walk with no arc totals 0, and any other begins in a row
+      begins : {u v : ℕ} {t : ℤ} → Walk Arc u v t → (pos 0 ≤ℤ t) ⊎ ((i : ℕ) × (i < length L) × (get_or L i 0 ≡ u))
+      begins {t} (stay e) = inl (omega (arith, zed))
+      begins (step {u} {v} {w} {c} a x e) = inr (R.leave u v c a)
+
       no_negative : (x : ℕ) (t : ℤ) → Walk Arc x x t → pos 0 ≤ℤ t
-      no_negative x t (stay e) = omega (arith, zed)
-      no_negative x t (step {u} {v} {c} a w e) = let n = R.leave u v c a in closed x t n.0 n.1 n.2 (step {r = t} a w e)
+      no_negative x t w = go (begins w)
+        where
+          go : (pos 0 ≤ℤ t) ⊎ ((i : ℕ) × (i < length L) × (get_or L i 0 ≡ x)) → pos 0 ≤ℤ t
+          go (inl h) = h
+          go (inr n) = closed x t n.0 n.1 n.2 w
 
       pub never : Negative Arc → ⊥
       never n = let h : pos 0 ≤ℤ n.t = no_negative n.x n.t n.loop in let b : n.t <ℤ pos 0 = n.below in omega (arith, zed)

@@ -1,4 +1,6 @@
 // `floyd_warshall`: the least totals between all pairs of a lent map. What it promises is in specs/Promise.antt.
+#![tactic(auto)]
+
 ghost use Rattle.std.specs.Prelude.{true, false, ◌≡◌, ℕ, ◌+◌, ◌*◌, ◌≤◌, ◌<◌, ◌^◌, pos, length, get_or};
 ghost use Rattle.whole.specs.Zed.{◌⊕◌, Within};
 ghost use Rattle.clean.specs.Fill.{filled};

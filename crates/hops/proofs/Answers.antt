@@ -18,7 +18,7 @@ use Rattle.net.specs.Net.{Net, net_of, net_of64, most_arcs_of}
 use Rattle.net.proofs.Bounds.{whole_ints, whole_floats}
 use Rattle.rows.specs.Rows.{Ready}
 use Rattle.rows.proofs.Maps.{ready_ints, ready_floats}
-use Rattle.hops.specs.Promise.{Buffers, buffers_of, left, result_of, Promise}
+use Rattle.hops.specs.Promise.{Buffers, buffers_of, result_of, Promise}
 use Rattle.hops.specs.Parts.{refusal_no, net_ends, Ripe, Solved, EnoughScratch, Wiped, Answered}
 use Rattle.hops.proofs.Refusals.{passed, passed_whole, passed_inside, passed_fits}
 use Rattle.hops.proofs.Settles.{SameEnds, ends_back, inside_over, matrix_over}

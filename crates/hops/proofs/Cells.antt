@@ -90,4 +90,5 @@ module _ {m p : ℕ} {E : ℕ → ℕ → Type 0} {ns l q mat : List ℕ} where
       where
         go : (a b : ℕ) → a < i + 1 → b < p → Dec (a ≡ i) → Entry E (get_or ns a 0) (get_or ns b 0) (get_or mat₂ (a * p + b) 0)
         go a b x y (yes e) = subst (λ (z : ℕ). Entry E (get_or ns z 0) (get_or ns b 0) (get_or mat₂ (z * p + b) 0)) (sym e) (r.entry b y)
-        go a b x y (no n) = let k : a < i = omega (arith, n) in subst (λ (z : ℕ). Entry E (get_or ns a 0) (get_or ns b 0) z) (sym (r.other (a * p + b) (inl (row_before p a i b k y)))) (f.entry a b k y)
+        go a b x y (no n) =
+            let k : a < i = omega (arith, n) in subst (λ (z : ℕ). Entry E (get_or ns a 0) (get_or ns b 0) z) (sym (r.other (a * p + b) (inl (row_before p a i b k y)))) (f.entry a b k y)

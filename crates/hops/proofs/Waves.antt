@@ -278,7 +278,8 @@ module _ {m s : ℕ} {os hs : List ℕ} (fit : Sound m (end_lists os hs)) {u k h
       closed_new : (j w : ℕ) → j < h → RowLeads m os hs (get_or q j 0) w → Low (set l (get_or hs i 0) (k + 1)) w (get_or (set l (get_or hs i 0) (k + 1)) (get_or q j 0) 0 + 1)
       closed_new j w x y =
           let jn : j < n = omega (arith, o.here) in
-          subst (λ (e : ℕ). Low (set l (get_or hs i 0) (k + 1)) w (e + 1)) (sym (same_at g (get_or hs i 0) (k + 1) below z at j jn)) (low_stays g (get_or hs i 0) (k + 1) below z at w _ (o.closed j w x y))
+          subst (λ (e : ℕ). Low (set l (get_or hs i 0) (k + 1)) w (e + 1)) (sym (same_at g (get_or hs i 0) (k + 1) below z at j jn))
+          (low_stays g (get_or hs i 0) (k + 1) below z at w _ (o.closed j w x y))
 
       more : (j : ℕ) → get_or os u 0 ≤ j → j < i + 1 → Dec (j ≡ i) → Low (set l (get_or hs i 0) (k + 1)) (get_or hs j 0) (k + 1)
       more j x y (no e) = low_stays g (get_or hs i 0) (k + 1) below z at _ _ (o.done j x (omega (arith, e)))

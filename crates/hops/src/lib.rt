@@ -1,4 +1,6 @@
 // How many arcs the shortest walks between all pairs have, by a breadth-first search from each index.
+#![tactic(auto)]
+
 ghost use Rattle.std.specs.Prelude.{◌≡◌, ◌+◌, ◌*◌, ◌≤◌, ◌<◌, length, get_or};
 ghost use Rattle.net.specs.Net.{net_of, net_of64, rising, most_arcs};
 ghost use Rattle.table.specs.Links.{present};

@@ -34,7 +34,7 @@ use Rattle.rows.proofs.Kept.{kept_none, kept_more}
 use Rattle.rows.proofs.Maps.{links_room, ready_ints, net_room, arcs_are, net_sound, net_kept, row_small}
 use Rattle.johnson.specs.Rounds.{label, table_of, Deep}
 use Rattle.johnson.specs.Potentials.{Ask, Potentials, Answered}
-use Rattle.johnson.specs.Shifting.{start, Listed, ShiftedTo}
+use Rattle.johnson.specs.Shifting.{Listed, ShiftedTo}
 use Rattle.johnson.specs.Parts.{Even, Ripe, Laid, Prepared}
 use Rattle.johnson.proofs.Shifts.{shifted_low, shifted_high}
 use Rattle.johnson.proofs.Shifted.{row_shifted, shifted_row}

@@ -48,7 +48,8 @@ module _ {m : ℕ} {nb : Lists ℤ} {h : List ℤ} where
       new : ℤ
       new = shifted_cost h u (get_or nb.heads i 0) (get_or ws i (pos 0))
 
-      pick : (x j : ℕ) → x < m → start nb x ≤ j → j < start nb (x + 1) → j < i + 1 → Dec (j ≡ i) → get_or (set ws i new) j (pos 0) ≡ shifted_cost h x (get_or nb.heads j 0) (get_or nb.weights j (pos 0))
+      pick : (x j : ℕ) → x < m → start nb x ≤ j → j < start nb (x + 1) → j < i + 1 → Dec (j ≡ i)
+          → get_or (set ws i new) j (pos 0) ≡ shifted_cost h x (get_or nb.heads j 0) (get_or nb.weights j (pos 0))
       pick x j a p q k (yes f) =
           let g : x ≡ u = one_row m nb rising u x i l a from to (subst (λ (y : ℕ). start nb x ≤ y) f p) (subst (λ (y : ℕ). y < start nb (x + 1)) f q) in
           rw (f, g) (get_or-set_same ws i new (pos 0) room ∙ ap (shifted_cost h u (get_or nb.heads i 0)) (w.rest i (omega arith)))

@@ -1,6 +1,7 @@
 -- Potentials as lists: one arc, one link, one round over the links in table order, and some rounds, each in place.
 -- Assumes nothing.
-use Rattle.std.specs.Prelude.{◌≡◌, Bool, true, false, cond, List, ℕ, zero, suc, ◌+◌, ◌-◌, ◌*◌, ◌≤◌, ◌<◌, ◌^◌, ℤ, pos, ◌≤ℤ◌, length, get_or, set}
+use Rattle.std.specs.Prelude.{◌≡◌, Bool, true, false, cond, List, ℕ, zero, suc, ◌+◌, ◌-◌, ◌*◌, ◌≤◌, ◌<◌, ◌^◌, ℤ, pos, ◌≤ℤ◌, length}
+use Rattle.std.specs.Prelude.{get_or, set}
 use Rattle.std.specs.Int.Signed.{lt_z}
 use Rattle.whole.specs.Zed.{◌⊕◌, P, N, Cost32}
 

@@ -1,5 +1,7 @@
 // All-pairs totals by potentials: rounds over all arcs,
 // the test for a closed walk below zero, then one search per index over shifted costs.
+#![tactic(auto)]
+
 ghost use Rattle.std.specs.Prelude.{◌≡◌, ℕ, ◌+◌, ◌*◌, ◌≤◌, ◌<◌, ◌^◌, pos, length, get_or, set};
 ghost use Rattle.whole.specs.Zed.{◌⊕◌, Cost32};
 ghost use Rattle.johnson.specs.Rounds.{label, lowers, lowered, table_of, Shallow, Linked, Deep};

@@ -1,6 +1,7 @@
 -- Text that is put at a place of a buffer, and the texts of numbers.
 -- Assumes nothing.
-use Rattle.std.specs.Prelude.{ℕ, zero, suc, ◌+◌, ◌/◌, ◌%◌, ◌≡◌, Bool, true, false, cond, List, [], ◌∷◌, ◌++◌, ltb, ℤ, pos, negsuc, length, take, drop}
+use Rattle.std.specs.Prelude.{ℕ, zero, suc, ◌+◌, ◌/◌, ◌%◌, ◌≡◌, Bool, true, false, cond, List, [], ◌∷◌, ◌++◌, ltb, ℤ, pos, negsuc}
+use Rattle.std.specs.Prelude.{length, take, drop}
 
 -- the buffer with a text at a place, the rest as it was
 abbrev pub placed : List ℕ → ℕ → List ℕ → List ℕ

@@ -1,5 +1,7 @@
 // Text put into a lent output buffer: fixed words, numbers in decimal and in hex.
 // Each function puts its text at a place of the buffer and gives the place after it.
+#![tactic(auto)]
+
 ghost use Rattle.std.specs.Prelude.{◌≡◌, ℕ, ◌+◌, ◌≤◌, ◌<◌, ◌^◌, true, false, [], ◌∷◌, length, take};
 ghost use Rattle.std.specs.Int.Signed.{mag};
 ghost use Rattle.lines.specs.Text.{Printed, glyph as glyphOf, decimal, decimal_text, signed_text};

@@ -123,6 +123,7 @@ asks =
 
 -- every one of them ends so
 pub offsets : map reading (sound ++ first ++ no_ask ++ shapes ++ places ++ puts ++ asks) ≡ sound ++ first ++ no_ask ++ shapes ++ places ++ puts ++ asks
-unfolding filled same_pair joins_ends present present_both lent_whole table_no place_at placing shorter room_ints room_floats store_ints put_ints store_floats put_floats u16_at u32_at u64_at cost_of head_at absent_at
+unfolding filled same_pair joins_ends present present_both lent_whole table_no place_at placing shorter room_ints room_floats store_ints put_ints store_floats
+    put_floats u16_at u32_at u64_at cost_of head_at absent_at
     link_at float_link_at ask_at kind_at record_at head_step absent_step link_may after_put link_step float_step engine_may ask_step one_step loaded
 offsets = refl

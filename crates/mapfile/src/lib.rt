@@ -1,4 +1,6 @@
 // The records of a map file: what stands at an offset, and the reading that loads a map and its ask.
+#![tactic(auto)]
+
 ghost use Rattle.std.specs.Prelude.{◌≡◌, ℕ, ◌+◌, ◌-◌, ◌≤◌, ◌<◌, ◌^◌, true, false, length};
 ghost use Rattle.clean.specs.Fill.{filled};
 ghost use Rattle.mapfile.specs.Bytes.{u16_at, u32_at, u64_at, cost_of};
@@ -10,7 +12,7 @@ ghost use Rattle.mapfile.specs.Parts.{OnMarks, OnInts, OnFloats};
 use table::Map;
 
 // What stands at an offset of a map file.
-#[derive(Drop)]
+#[derive(Clone, Copy)]
 pub enum Record {
     // the file's end
     End,
@@ -216,7 +218,7 @@ pub fn record_at(file: &[u8], at: usize) -> Record
 }
 
 // A view of a map file: its bytes and an offset.
-#[derive(Drop)]
+#[derive(Clone, Copy)]
 pub struct Reader<'a> {
     pub file: &'a [u8],
     pub at: usize,
@@ -236,7 +238,7 @@ pub fn next<'a>(r: Reader<'a>) -> Record
     record_at(r.file, r.at)
 }
 
-// What stands at an offset, by a view: whoever calls this needs no walk by hand.
+// What stands at an offset, by a view.
 pub fn read_at(file: &[u8], at: usize) -> Record
     ensures { result ≡ record_at file.now at }
 {
@@ -245,7 +247,7 @@ pub fn read_at(file: &[u8], at: usize) -> Record
 
 // How far the reading of a map file is, the map's scalars so far, and at the end the ask. The stages: 0 before the first record,
 // 1 after the head, 2 after a link, 3 a rule is broken at `at`, 4 asked.
-#[derive(Drop)]
+#[derive(Clone, Copy)]
 pub struct Reading {
     pub stage: u8,
     pub at: usize,

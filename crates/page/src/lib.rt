@@ -1,4 +1,6 @@
 // The page check: are the distances that another program gives those that the map's arcs allow?
+#![tactic(auto)]
+
 ghost use Rattle.std.specs.Prelude.{◌≡◌, ℕ, ◌≤◌, ◌<◌, length};
 ghost use Rattle.clean.specs.None.{none_i64};
 ghost use Rattle.table.specs.Links.{links, Arc};

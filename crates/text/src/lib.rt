@@ -1,4 +1,6 @@
 // The text of an answer, put into a lent buffer: one function for each kind of line.
+#![tactic(auto)]
+
 ghost use Rattle.std.specs.Prelude.{[], ◌∷◌, map, ℕ, ◌+◌, ◌*◌, ◌≤◌, ◌<◌, pos, length, get_or, take, drop};
 ghost use Rattle.table.specs.Links.{present};
 ghost use Rattle.lines.specs.Text.{Printed, decimal_text, signed_text, end_text, cost_text, path_text};

@@ -1,0 +1,63 @@
+-- `bellman_ford::relax_row` meets its contract.
+-- Assumes nothing.
+use Prim.Native.Nat.{◌+◌, ◌<◌}
+use native.Mathlib.Omega.{arith}
+use borrow.Author.Rules.{rules, sfits_of}
+use lib.ListN.{length}
+use mir.Syntax.{w64}
+use mir.ValLaws.{to_z-of_z}
+use Rattle.bellman_ford.proofs.Arc.{safe}
+use Rattle.bellman_ford.proofs.Row.{row_first, row_next, row_stops, row_ends, safe_at, relaxed_at}
+use Rattle.bellman_ford.proofs.relax_row.Goals as goal
+use Rattle.bellman_ford.proofs.relax_row.Goals.{In-loop-i}
+
+-- a place of the row is a place of the neighbour list
+module _ (c : In-loop-i) where
+  in-heads : c.loop-i.i < length c.args.heads.now
+  in-heads = omega (
+    arith,
+    c.requires.fit.sound.heads
+        c.args.u c.loop-i.invariant.state.index,
+  )
+
+  in-weights : c.loop-i.i < length c.args.weights.now
+  in-weights = omega (
+    arith,
+    c.requires.fit.sound.weights
+        c.args.u c.loop-i.invariant.state.index,
+  )
+
+pub loop-i-init : goal.loop-i-init
+loop-i-init c = row_first (to_z-of_z w64 _ (sfits_of c.d-1.given)) c.requires.fact
+
+pub offset_bounds-heads-i : goal.offset_bounds-heads-i
+offset_bounds-heads-i c = let h = in-heads c in search rules
+
+pub bounds-heads-i : goal.bounds-heads-i
+bounds-heads-i c = in-heads (goal.at.bounds-heads-i c).In-loop-i
+
+pub overflow_cast-v : goal.overflow_cast-v
+overflow_cast-v c = omega (arith, c.shared_slice_known-in-loop-i-1.given c.loop-i.i)
+
+pub offset_bounds-weights-i : goal.offset_bounds-weights-i
+offset_bounds-weights-i c = let h = in-weights (goal.at.offset_bounds-weights-i c).In-loop-i in search rules
+
+pub bounds-weights-i : goal.bounds-weights-i
+bounds-weights-i c = in-weights (goal.at.bounds-weights-i c).In-loop-i
+
+pub relax_arc-t-requires : goal.relax_arc-t-requires
+relax_arc-t-requires c = safe_at (to_z-of_z w64 _ (sfits_of c.relax_arc-arg-1.given)) (safe c.requires.fit c.loop-i.invariant.state c.loop-i-test.true)
+
+pub returns-then-t : goal.returns-then-t
+returns-then-t c = row_stops c.requires.fit c.loop-i.invariant c.loop-i-test.true (relaxed_at (to_z-of_z w64 _ (sfits_of c.relax_arc-arg-1.given)) c.relax_arc-t.ensures)
+    c.if-t.true
+
+pub overflow_add-i : goal.overflow_add-i
+overflow_add-i c = omega (arith, c.loop-i-test.true, c.shared_slice_known-3-1.given (c.args.u + 1))
+
+pub loop-i-preserved : goal.loop-i-preserved
+loop-i-preserved c = row_next c.requires.fit c.loop-i.invariant c.loop-i-test.true (relaxed_at (to_z-of_z w64 _ (sfits_of c.relax_arc-arg-1.given)) c.relax_arc-t.ensures)
+    c.if-t.false
+
+pub returns : goal.returns
+returns c = row_ends c.requires.fit c.loop-i.invariant c.loop-i-test.false
