@@ -150,6 +150,7 @@ fn make_row(
 }
 
 // Make every row, in the order of the nodes.
+#[tactic(auto, using(matrix::proofs::Matrix::row_in, matrix::proofs::Matrix::square_small))]
 fn fill(
     m: usize,
     p: usize,

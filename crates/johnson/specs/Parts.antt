@@ -54,7 +54,8 @@ pub record CanShow (m at s : ℕ) (marks : List ℕ) (h ds matrix : List ℤ) : 
 -- the row holds what was found for the present ones of the first k indices, shifted back; all else is as it was
 pub record RowShown (m at s k : ℕ) (marks : List ℕ) (h ds before after : List ℤ) : Type 0 where
   pub long : length after ≡ length before
-  pub each : (v : ℕ) → v < k → present m marks v ≡ true → get_or after (at + rank m marks v) (pos 0) ≡ shifted_back h s v (get_or ds v (pos 0))
+  pub each : (v : ℕ) → v < k → present m marks v ≡ true
+      → get_or after (at + rank m marks v) (pos 0) ≡ shifted_back h s v (get_or ds v (pos 0))
   pub ahead : (x : ℕ) → x < at → get_or after x (pos 0) ≡ get_or before x (pos 0)
   pub past : (x : ℕ) → at + rank m marks k ≤ x → get_or after x (pos 0) ≡ get_or before x (pos 0)
 

@@ -41,4 +41,5 @@ pub record ShiftedTo (m : ℕ) (nb : Lists ℤ) (h ws : List ℤ) (k : ℕ) : Ty
 -- the row of u shifted, after the rows before it
 pub record RowShifted (m u : ℕ) (os hs : List ℕ) (h ws ws' : List ℤ) : Type 0 where
   pub long : length ws' ≡ length ws
-  pub next : (ws₀ : List ℤ) → ShiftedTo m (lists_of os hs ws₀) h ws (get_or os u 0) → ShiftedTo m (lists_of os hs ws₀) h ws' (get_or os (u + 1) 0)
+  pub next : (ws₀ : List ℤ) → ShiftedTo m (lists_of os hs ws₀) h ws (get_or os u 0)
+      → ShiftedTo m (lists_of os hs ws₀) h ws' (get_or os (u + 1) 0)

@@ -5,7 +5,6 @@ use Prim.Native.Nat.{ℕ}
 use native.Mathlib.Omega.{arith}
 use Rattle.hops.specs.Search.{Filled, RowLeads}
 use Rattle.hops.proofs.Cells.{filled_first, filled_next, can_row_lem}
-use Rattle.matrix.proofs.Matrix.{square_small, row_in}
 use Rattle.hops.proofs.fill.Goals as goal
 
 pub loop-i-init : goal.loop-i-init
@@ -19,9 +18,6 @@ bounds-nodes-i c = omega (arith, c.requires.can_fill.nodes)
 
 pub overflow_cast-source : goal.overflow_cast-source
 overflow_cast-source c = omega (arith, c.shared_slice_known-in-loop-i-1.given c.loop-i.i)
-
-pub overflow_mul-i : goal.overflow_mul-i
-overflow_mul-i c = omega (arith, row_in c.args.p c.loop-i.i c.loop-i-test.true, square_small c.args.p c.requires.can_fill.few)
 
 pub make_row-requires : goal.make_row-requires
 make_row-requires c = record { sound = c.requires.sound; can_row = can_row_lem c.requires.can_fill c.loop-i.invariant.1 c.loop-i-test.true }
