@@ -1,7 +1,9 @@
 // The f64 cases that 01 names, on maps of three indices. A line for each:
 // its name, the number, and per index the bits of the distance and the predecessor.
+#![tactic(auto)]
+
 use float::Cutoff;
-use libc::STDOUT_FILENO;
+use std::io;
 use table::Map;
 
 const ZERO: u64 = 0;
@@ -25,41 +27,49 @@ const NAN: u64 = 0x7ff8_0000_0000_0000;
 const MINUS_NAN: u64 = 0xfff8_0000_0000_0001;
 
 // A distance by its bits, or none, after a space.
-fn put_distance(d: u64) {
-    io::write_all(STDOUT_FILENO, b" ");
+fn put_distance(rt: &impl Print, d: u64) -> io::Result<()> {
     if d == clean::NONE_F64 {
-        io::write_all(STDOUT_FILENO, b"none");
+        print!(rt; " none")
     } else {
-        io::print_hex(STDOUT_FILENO, d, 16);
+        print!(rt; " {d:016x}")
     }
 }
 
 // A predecessor, or none, after a space.
-fn put_predecessor(u: u32) {
-    io::write_all(STDOUT_FILENO, b" ");
+fn put_predecessor(rt: &impl Print, u: u32) -> io::Result<()> {
     if u == clean::NONE_U32 {
-        io::write_all(STDOUT_FILENO, b"none");
+        print!(rt; " none")
     } else {
-        io::print_decimal(STDOUT_FILENO, u as u64);
+        print!(rt; " {u}")
     }
 }
 
 // The line of a case.
-fn put_line(name: &[u8], number: usize, dist: &[u64; 3], preds: &[u32; 3]) {
-    io::write_all(STDOUT_FILENO, name);
-    io::write_all(STDOUT_FILENO, b" ");
-    io::print_decimal(STDOUT_FILENO, number as u64);
-    put_distance(dist[0]);
-    put_predecessor(preds[0]);
-    put_distance(dist[1]);
-    put_predecessor(preds[1]);
-    put_distance(dist[2]);
-    put_predecessor(preds[2]);
-    io::write_all(STDOUT_FILENO, b"\n");
+fn put_line(
+    rt: &impl Print,
+    name: &str,
+    number: usize,
+    dist: &[u64; 3],
+    preds: &[u32; 3],
+) -> io::Result<()> {
+    print!(rt; "{name} {number}")?;
+    put_distance(rt, dist[0])?;
+    put_predecessor(rt, preds[0])?;
+    put_distance(rt, dist[1])?;
+    put_predecessor(rt, preds[1])?;
+    put_distance(rt, dist[2])?;
+    put_predecessor(rt, preds[2])?;
+    println!(rt;)
 }
 
 // The arcs 0 to 1, 1 to 2 and 0 to 2 at these patterns, open or closed by these marks, searched from 0.
-fn search(name: &[u8], bits: &[u64; 3], opens: &[u8; 3], cutoff: Cutoff) {
+fn search(
+    rt: &impl Print,
+    name: &str,
+    bits: &[u64; 3],
+    opens: &[u8; 3],
+    cutoff: Cutoff,
+) -> io::Result<()> {
     let map = Map {
         bound: 3,
         count: 3,
@@ -94,63 +104,92 @@ fn search(name: &[u8], bits: &[u64; 3], opens: &[u8; 3], cutoff: Cutoff) {
         &mut words,
         &mut keys,
     );
-    put_line(name, number, &dist, &preds);
+    put_line(rt, name, number, &dist, &preds)
 }
 
 // The arcs 0 to 1 and 1 to 2.
-fn chain(name: &[u8], first: u64, second: u64, cutoff: Cutoff) {
-    search(name, &[first, second, ZERO], &[1, 1, 0], cutoff);
+fn chain(rt: &impl Print, name: &str, first: u64, second: u64, cutoff: Cutoff) -> io::Result<()> {
+    search(rt, name, &[first, second, ZERO], &[1, 1, 0], cutoff)
 }
 
 // The arc 0 to 1, closed, and 0 to 2.
-fn closed(name: &[u8], first: u64, direct: u64) {
-    search(name, &[first, ZERO, direct], &[0, 0, 1], Cutoff::None);
+fn closed(rt: &impl Print, name: &str, first: u64, direct: u64) -> io::Result<()> {
+    search(rt, name, &[first, ZERO, direct], &[0, 0, 1], Cutoff::None)
 }
 
 // All three arcs.
-fn detour(name: &[u8], first: u64, second: u64, direct: u64) {
-    search(name, &[first, second, direct], &[1, 1, 1], Cutoff::None);
+fn detour(rt: &impl Print, name: &str, first: u64, second: u64, direct: u64) -> io::Result<()> {
+    search(rt, name, &[first, second, direct], &[1, 1, 1], Cutoff::None)
 }
 
-fn main() {
+// The cutoffs.
+fn cutoffs(rt: &impl Print) -> io::Result<()> {
     // A total equal to the cutoff is kept, the next f64 below cuts it; so does 0.0 keep zero totals, and -0.0.
-    chain(b"cutoff-equal", ONE_AND_HALF, ONE, Cutoff::At(2.5));
+    chain(rt, "cutoff-equal", ONE_AND_HALF, ONE, Cutoff::At(2.5))?;
     chain(
-        b"cutoff-next-below",
+        rt,
+        "cutoff-next-below",
         ONE_AND_HALF,
         ONE,
         Cutoff::At(2.4999999999999996),
-    );
-    chain(b"cutoff-zero", ZERO, ONE, Cutoff::At(0.0));
-    chain(b"cutoff-minus-zero", ZERO, ONE, Cutoff::At(-0.0));
+    )?;
+    chain(rt, "cutoff-zero", ZERO, ONE, Cutoff::At(0.0))?;
+    chain(rt, "cutoff-minus-zero", ZERO, ONE, Cutoff::At(-0.0))?;
     // One below zero leaves the source alone.
-    chain(b"cutoff-minus-one", ZERO, ONE, Cutoff::At(-1.0));
-    chain(b"cutoff-minus-infinity", ZERO, ONE, Cutoff::At(-1.0 / 0.0));
-    // No cutoff, +infinity and a NaN of either sign cut nothing.
-    chain(b"cutoff-none", ONE_AND_HALF, ONE, Cutoff::None);
-    chain(b"cutoff-infinity", ONE_AND_HALF, ONE, Cutoff::At(1.0 / 0.0));
-    chain(b"cutoff-nan", ONE_AND_HALF, ONE, Cutoff::At(0.0 / 0.0));
+    chain(rt, "cutoff-minus-one", ZERO, ONE, Cutoff::At(-1.0))?;
     chain(
-        b"cutoff-other-nan",
+        rt,
+        "cutoff-minus-infinity",
+        ZERO,
+        ONE,
+        Cutoff::At(-1.0 / 0.0),
+    )?;
+    // No cutoff, +infinity and a NaN of either sign cut nothing.
+    chain(rt, "cutoff-none", ONE_AND_HALF, ONE, Cutoff::None)?;
+    chain(
+        rt,
+        "cutoff-infinity",
+        ONE_AND_HALF,
+        ONE,
+        Cutoff::At(1.0 / 0.0),
+    )?;
+    chain(rt, "cutoff-nan", ONE_AND_HALF, ONE, Cutoff::At(0.0 / 0.0))?;
+    chain(
+        rt,
+        "cutoff-other-nan",
         ONE_AND_HALF,
         ONE,
         Cutoff::At(-(0.0 / 0.0)),
-    );
+    )
+}
+
+// Bad costs, and costs of closed arcs.
+fn bad_costs(rt: &impl Print) -> io::Result<()> {
     // A cost with its sign bit set is bad, and so is a NaN; bad is seen before the cutoff, but not past it.
-    chain(b"cost-minus-zero", MINUS_ZERO, ONE, Cutoff::None);
-    chain(b"cost-nan", NAN, ONE, Cutoff::None);
-    chain(b"cost-minus-nan", MINUS_NAN, ONE, Cutoff::None);
-    chain(b"bad-before-cutoff", MINUS_FIVE, ONE, Cutoff::At(-1.0));
-    chain(b"bad-past-cutoff", ONE_AND_HALF, NAN, Cutoff::At(1.0));
+    chain(rt, "cost-minus-zero", MINUS_ZERO, ONE, Cutoff::None)?;
+    chain(rt, "cost-nan", NAN, ONE, Cutoff::None)?;
+    chain(rt, "cost-minus-nan", MINUS_NAN, ONE, Cutoff::None)?;
+    chain(rt, "bad-before-cutoff", MINUS_FIVE, ONE, Cutoff::At(-1.0))?;
+    chain(rt, "bad-past-cutoff", ONE_AND_HALF, NAN, Cutoff::At(1.0))?;
     // Closed arcs are passed over, whatever they cost.
-    closed(b"closed-nan", NAN, ONE);
-    closed(b"closed-minus-five", MINUS_FIVE, ONE);
+    closed(rt, "closed-nan", NAN, ONE)?;
+    closed(rt, "closed-minus-five", MINUS_FIVE, ONE)
+}
+
+// Infinite costs, and sums that are rounded.
+fn sums(rt: &impl Print) -> io::Result<()> {
     // +infinity is a cost and a distance; it doesn't take its own place, and a finite cutoff cuts it.
-    chain(b"infinite", INFINITE, ONE, Cutoff::None);
-    detour(b"infinite-stays", INFINITE, ONE, INFINITE);
-    chain(b"infinite-cut", ONE, INFINITE, Cutoff::At(2.5));
+    chain(rt, "infinite", INFINITE, ONE, Cutoff::None)?;
+    detour(rt, "infinite-stays", INFINITE, ONE, INFINITE)?;
+    chain(rt, "infinite-cut", ONE, INFINITE, Cutoff::At(2.5))?;
     // A sum past the largest f64, and one that is rounded to its first part: not smaller, so the first predecessor stays.
-    chain(b"overflow", LARGEST, LARGEST, Cutoff::None);
-    chain(b"rounded", TWO_TO_53, ONE, Cutoff::None);
-    detour(b"rounded-stays", TWO_TO_53, ONE, TWO_TO_53);
+    chain(rt, "overflow", LARGEST, LARGEST, Cutoff::None)?;
+    chain(rt, "rounded", TWO_TO_53, ONE, Cutoff::None)?;
+    detour(rt, "rounded-stays", TWO_TO_53, ONE, TWO_TO_53)
+}
+
+fn main(rt: HostRuntime) -> io::Result<()> {
+    cutoffs(&rt)?;
+    bad_costs(&rt)?;
+    sums(&rt)
 }

@@ -1,8 +1,27 @@
 // Runs map files from standard input through `sheet`, and prints for each a line with its name, and its sheet. The file `stdout`
 // has what an independent model prints. A case is the length of its name (8 bits) and of its file (16 bits), the name, the file.
-ghost use Rattle.std.specs.Prelude.{◌≤◌};
+#![tactic(auto)]
 
-use libc::{STDIN_FILENO, STDOUT_FILENO};
+ghost use Rattle.std.specs.Prelude.{◌≤◌, IfOk};
+ghost use Rattle.std.specs.Counts.{IsPrefixLen};
+
+use std::io;
+use std::io::{Read, Stdin};
+
+// Reads until the buffer is full or the input ends, however few bytes come at a time, and gives the number of bytes.
+fn read_full(mut from: Stdin, buf: &mut [u8]) -> io::Result<usize>
+    ensures { IfOk result (λ n. IsPrefixLen n buf.new) }
+{
+    let mut done: usize = 0;
+    while done < buf.len() {
+        let more = from.read(&mut buf[done..])?;
+        if more == 0 {
+            break;
+        }
+        done += more;
+    }
+    Ok(done)
+}
 
 // The number with these two bytes.
 fn number(low: u8, high: u8) -> usize
@@ -12,46 +31,48 @@ fn number(low: u8, high: u8) -> usize
 }
 
 // Prints the line of a case, whose name is next in the input and fills the buffer.
-fn print_name(name: &mut [u8]) {
-    let got = io::read_full(STDIN_FILENO, name);
-    io::write_all(STDOUT_FILENO, b"case ");
-    io::write_all(STDOUT_FILENO, &name[..got]);
-    io::write_all(STDOUT_FILENO, b"\n");
+fn print_name(rt: &HostRuntime, name: &mut [u8]) -> io::Result<()> {
+    let got = read_full(rt.stdin(), name)?;
+    rt.write_all(b"case ")?;
+    rt.write_all(&name[..got])?;
+    rt.write_all(b"\n")
 }
 
 // Prints the sheet of a case, whose file is next in the input and fills the buffer.
-fn print_sheet(file: &mut [u8]) {
-    let got = io::read_full(STDIN_FILENO, file);
+fn print_sheet(rt: &HostRuntime, file: &mut [u8]) -> io::Result<()> {
+    let got = read_full(rt.stdin(), file)?;
     let mut out = [0u8; sheet::OUTPUT];
     let size = sheet::sheet(&file[..got], &mut out);
-    io::write_all(STDOUT_FILENO, &out[..size]);
+    rt.write_all(&out[..size])
 }
 
 // Runs a case whose name and file have these lengths, low byte first.
-fn run_case(length: u8, low: u8, high: u8) {
+fn run_case(rt: &HostRuntime, length: u8, low: u8, high: u8) -> io::Result<()> {
     let mut name = [0u8; 255];
-    let n = io::count(number(length, 0) as isize, &name);
-    print_name(&mut name[..n]);
+    let n = number(length, 0).min(name.len());
+    print_name(rt, &mut name[..n])?;
     let mut file = [0u8; 65535];
-    let k = io::count(number(low, high) as isize, &file);
-    print_sheet(&mut file[..k]);
+    let k = number(low, high);
+    print_sheet(rt, &mut file[..k])
 }
 
 // Runs the next case, and answers whether there was one.
-fn next_case() -> bool {
+fn next_case(rt: &HostRuntime) -> io::Result<bool> {
     let mut sizes = [0u8; 3];
-    let got = io::read_full(STDIN_FILENO, &mut sizes);
+    let got = read_full(rt.stdin(), &mut sizes)?;
     if got < 3 {
-        return false;
+        return Ok(false);
     }
-    run_case(sizes[0], sizes[1], sizes[2]);
-    true
+    run_case(rt, sizes[0], sizes[1], sizes[2])?;
+    Ok(true)
 }
 
-// Nothing says that the input ends, so the loop counts its turns down.
-fn main() {
-    let mut turns = u32::MAX;
-    while turns > 0 && next_case() {
-        turns -= 1;
+// Nothing says that the input ends, so the turns are counted.
+fn main(rt: HostRuntime) -> io::Result<()> {
+    for _ in 0..u32::MAX {
+        if !next_case(&rt)? {
+            break;
+        }
     }
+    Ok(())
 }

@@ -1,4 +1,5 @@
 // The questions of f64 maps on a case of the list, with room for 8 indices and 16 links: no case has more.
+use crate::maps::Read;
 use crate::same::Seen;
 use crate::{ints, maps, reads, same};
 use float::Cutoff;
@@ -100,8 +101,7 @@ fn path_impl(
     at: usize,
 ) -> Seen {
     let source = reads::index(list, at);
-    let limit = read_cutoff(list, source.next);
-    let cutoff = limit.cutoff;
+    let Limit { cutoff, next } = read_cutoff(list, source.next);
     let mut dist = [0u64; 8];
     let mut preds = [0u32; 8];
     let mut offsets = [0usize; 9];
@@ -128,7 +128,7 @@ fn path_impl(
         &mut words,
         &mut keys,
     );
-    see_search(number, &dist, &preds, map.bound, list, limit.next)
+    see_search(number, &dist, &preds, map.bound, list, next)
 }
 
 // dijkstra_path_f64: source, cutoff; number, distances, predecessors.
@@ -143,8 +143,7 @@ fn path_f64(
     at: usize,
 ) -> Seen {
     let source = reads::index(list, at);
-    let limit = read_cutoff(list, source.next);
-    let cutoff = limit.cutoff;
+    let Limit { cutoff, next } = read_cutoff(list, source.next);
     let mut dist = [0u64; 8];
     let mut preds = [0u32; 8];
     let mut offsets = [0usize; 9];
@@ -171,7 +170,7 @@ fn path_f64(
         &mut words,
         &mut keys,
     );
-    see_search(number, &dist, &preds, map.bound, list, limit.next)
+    see_search(number, &dist, &preds, map.bound, list, next)
 }
 
 // hops_f64: number, count of nodes, nodes, size of the matrix, matrix.
@@ -236,11 +235,9 @@ pub fn replay(list: &[u8], at: usize, kind: u64) -> Seen {
     let mut to = [0u16; 16];
     let mut bits = [0u64; 16];
     let mut opens = [0u8; 16];
-    let head = maps::read_head(list, at, &mut marks);
-    let read = maps::put_records_f64(
-        head.map, &marks, &mut from, &mut to, &mut bits, &mut opens, list, head.next,
+    let Read { map, next } = maps::read_head(list, at, &mut marks);
+    let Read { map, next } = maps::put_records_f64(
+        map, &marks, &mut from, &mut to, &mut bits, &mut opens, list, next,
     );
-    ask(
-        read.map, &marks, &from, &to, &bits, &opens, list, read.next, kind,
-    )
+    ask(map, &marks, &from, &to, &bits, &opens, list, next, kind)
 }

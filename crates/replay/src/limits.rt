@@ -1,13 +1,10 @@
 // The limits of a map, each just kept and just passed. A line for each: its name and the number given.
-use libc::STDOUT_FILENO;
+use std::io;
 use table::{Map, PutDone};
 
 // The line of a limit.
-fn put_line(name: &[u8], number: usize) {
-    io::write_all(STDOUT_FILENO, name);
-    io::write_all(STDOUT_FILENO, b" ");
-    io::print_decimal(STDOUT_FILENO, number as u64);
-    io::write_all(STDOUT_FILENO, b"\n");
+fn put_line(rt: &impl Print, name: &str, number: usize) -> io::Result<()> {
+    println!(rt; "{name} {number}")
 }
 
 // dijkstra from the last index of a map of this bound and count, all present, with room for one more index and one more link than allowed.
@@ -44,9 +41,9 @@ fn ask(bound: usize, count: usize, from: &[u16], to: &[u16], costs: &[i32]) -> u
 }
 
 // 1,024 indices are answered, 1,025 refused.
-pub fn indices() {
-    put_line(b"indices 1024:", ask(1024, 0, &[], &[], &[]));
-    put_line(b"indices 1025:", ask(1025, 0, &[], &[], &[]));
+pub fn indices(rt: &impl Print) -> io::Result<()> {
+    put_line(rt, "indices 1024:", ask(1024, 0, &[], &[], &[]))?;
+    put_line(rt, "indices 1025:", ask(1025, 0, &[], &[], &[]))
 }
 
 // A record between these ends, put.
@@ -92,28 +89,30 @@ fn fill(from: &mut [u16], to: &mut [u16], costs: &mut [i32]) -> usize {
 
 // Link 8,192 is put, link 8,193 refused, though the slices have room; one sent again is taken.
 // A question on 8,192 links is answered, on 8,193 refused.
-pub fn links() {
+pub fn links(rt: &impl Print) -> io::Result<()> {
     let mut from = [0u16; 8193];
     let mut to = [0u16; 8193];
     let mut costs = [0i32; 8193];
     let count = fill(&mut from, &mut to, &mut costs);
-    put_line(b"links put:", count);
+    put_line(rt, "links put:", count)?;
     let more = put_one(count, &mut from, &mut to, &mut costs, 9, 0);
-    put_line(b"link 8193:", more.refusal);
+    put_line(rt, "link 8193:", more.refusal)?;
     let again = put_one(count, &mut from, &mut to, &mut costs, 7, 1023);
-    put_line(b"link 8192 again:", again.refusal);
+    put_line(rt, "link 8192 again:", again.refusal)?;
     put_line(
-        b"question on 8192 links:",
+        rt,
+        "question on 8192 links:",
         ask(1024, 8192, &from, &to, &costs),
-    );
+    )?;
     put_line(
-        b"question on 8193 links:",
+        rt,
+        "question on 8193 links:",
         ask(1024, 8193, &from, &to, &costs),
-    );
+    )
 }
 
 // a_star from 0 to 1 over one link, with this heuristic at both.
-fn guess(name: &[u8], h: i64) {
+fn guess(rt: &impl Print, name: &str, h: i64) -> io::Result<()> {
     let mut path = [0u32; 2];
     let mut offsets = [0usize; 3];
     let mut heads = [0u16; 1];
@@ -146,13 +145,13 @@ fn guess(name: &[u8], h: i64) {
         &mut words,
         &mut keys,
     );
-    put_line(name, found.number);
+    put_line(rt, name, found.number)
 }
 
 // A heuristic of 2^42 either way is taken, one more refused.
-pub fn heuristics() {
-    guess(b"heuristic 2^42:", 4398046511104);
-    guess(b"heuristic 2^42 + 1:", 4398046511105);
-    guess(b"heuristic -2^42:", -4398046511104);
-    guess(b"heuristic -2^42 - 1:", -4398046511105);
+pub fn heuristics(rt: &impl Print) -> io::Result<()> {
+    guess(rt, "heuristic 2^42:", 4398046511104)?;
+    guess(rt, "heuristic 2^42 + 1:", 4398046511105)?;
+    guess(rt, "heuristic -2^42:", -4398046511104)?;
+    guess(rt, "heuristic -2^42 - 1:", -4398046511105)
 }

@@ -10,21 +10,21 @@ pub const LOST: usize = 0xffff_ffff_ffff_ffff;
 const LONG: u64 = 0x1000_0000_0000_0000;
 
 // A number, or bits.
-#[derive(Drop)]
+#[derive(Clone, Copy)]
 pub struct Word {
     pub size: u64,
     pub next: usize,
 }
 
 // A number of 64 bits with a sign.
-#[derive(Drop)]
+#[derive(Clone, Copy)]
 pub struct Signed64 {
     pub value: i64,
     pub next: usize,
 }
 
 // A number of 32 bits with a sign.
-#[derive(Drop)]
+#[derive(Clone, Copy)]
 pub struct Signed32 {
     pub value: i32,
     pub next: usize,

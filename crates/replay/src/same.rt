@@ -2,7 +2,7 @@
 use crate::reads;
 
 // The answer, and the place behind the words that were read.
-#[derive(Drop)]
+#[derive(Clone, Copy)]
 pub struct Seen {
     pub same: bool,
     pub next: usize,
