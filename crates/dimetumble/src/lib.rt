@@ -1,6 +1,8 @@
 // The questions and puts as C functions. Each makes the map of its scalars, asks the question, and promises what that promises.
 // A slice is a pointer and a length. A flag is a byte: 0 is no, any other is yes.
 // What a question gives beside its number is written to a lent place.
+#![tactic(auto)]
+
 ghost use Rattle.std.specs.Prelude.{◌≡◌, ◌≤◌};
 ghost use Rattle.table.specs.Links.{link_of};
 ghost use Rattle.table.specs.Lent.{ints_now, put_ints, floats_now, raw_cost, put_floats};
@@ -19,6 +21,7 @@ use float::Cutoff;
 use table::Map;
 
 // The cutoff: none where the flag is 0.
+#[tactic(auto, unfolding(crate::specs::Flags::limit_of))]
 fn limit(capped: u8, cutoff: f64) -> Cutoff
     ensures { result ≡ limit_of capped cutoff }
 {
