@@ -1,5 +1,4 @@
 // The questions of f64 maps on a case of the list, with room for 8 indices and 16 links: no case has more.
-use crate::maps::Read;
 use crate::same::Seen;
 use crate::{ints, maps, reads, same};
 use float::Cutoff;
@@ -12,7 +11,7 @@ const MINUS_ONE: u64 = 0xbff0_0000_0000_0000;
 const NAN: u64 = 0x7ff8_0000_0000_0000;
 
 // A cutoff, and the place behind its words.
-#[derive(Drop)]
+#[derive(Clone, Copy)]
 struct Limit {
     cutoff: Cutoff,
     next: usize,
@@ -101,7 +100,8 @@ fn path_impl(
     at: usize,
 ) -> Seen {
     let source = reads::index(list, at);
-    let Limit { cutoff, next } = read_cutoff(list, source.next);
+    let limit = read_cutoff(list, source.next);
+    let cutoff = limit.cutoff;
     let mut dist = [0u64; 8];
     let mut preds = [0u32; 8];
     let mut offsets = [0usize; 9];
@@ -128,7 +128,7 @@ fn path_impl(
         &mut words,
         &mut keys,
     );
-    see_search(number, &dist, &preds, map.bound, list, next)
+    see_search(number, &dist, &preds, map.bound, list, limit.next)
 }
 
 // dijkstra_path_f64: source, cutoff; number, distances, predecessors.
@@ -143,7 +143,8 @@ fn path_f64(
     at: usize,
 ) -> Seen {
     let source = reads::index(list, at);
-    let Limit { cutoff, next } = read_cutoff(list, source.next);
+    let limit = read_cutoff(list, source.next);
+    let cutoff = limit.cutoff;
     let mut dist = [0u64; 8];
     let mut preds = [0u32; 8];
     let mut offsets = [0usize; 9];
@@ -170,7 +171,7 @@ fn path_f64(
         &mut words,
         &mut keys,
     );
-    see_search(number, &dist, &preds, map.bound, list, next)
+    see_search(number, &dist, &preds, map.bound, list, limit.next)
 }
 
 // hops_f64: number, count of nodes, nodes, size of the matrix, matrix.
@@ -235,9 +236,11 @@ pub fn replay(list: &[u8], at: usize, kind: u64) -> Seen {
     let mut to = [0u16; 16];
     let mut bits = [0u64; 16];
     let mut opens = [0u8; 16];
-    let Read { map, next } = maps::read_head(list, at, &mut marks);
-    let Read { map, next } = maps::put_records_f64(
-        map, &marks, &mut from, &mut to, &mut bits, &mut opens, list, next,
+    let head = maps::read_head(list, at, &mut marks);
+    let read = maps::put_records_f64(
+        head.map, &marks, &mut from, &mut to, &mut bits, &mut opens, list, head.next,
     );
-    ask(map, &marks, &from, &to, &bits, &opens, list, next, kind)
+    ask(
+        read.map, &marks, &from, &to, &bits, &opens, list, read.next, kind,
+    )
 }

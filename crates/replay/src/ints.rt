@@ -1,5 +1,4 @@
 // The questions of integer maps on a case of the list, with room for 8 indices and 16 links: no case has more.
-use crate::maps::Read;
 use crate::same::Seen;
 use crate::{maps, reads, same};
 use table::Map;
@@ -350,9 +349,9 @@ pub fn replay(list: &[u8], at: usize, kind: u64) -> Seen {
     let mut from = [0u16; 16];
     let mut to = [0u16; 16];
     let mut costs = [0i32; 16];
-    let Read { map, next } = maps::read_head(list, at, &mut marks);
-    let Read { map, next } = maps::put_records(
-        map, &marks, &mut from, &mut to, &mut costs, list, next,
+    let head = maps::read_head(list, at, &mut marks);
+    let read = maps::put_records(
+        head.map, &marks, &mut from, &mut to, &mut costs, list, head.next,
     );
-    ask(map, &marks, &from, &to, &costs, list, next, kind)
+    ask(read.map, &marks, &from, &to, &costs, list, read.next, kind)
 }

@@ -9,7 +9,7 @@ const INDICES: u64 = 6;
 const RECORDS: u64 = 12;
 
 // The map, and the place behind it in the list.
-#[derive(Drop)]
+#[derive(Clone, Copy)]
 pub struct Read {
     pub map: Map,
     pub next: usize,
