@@ -38,6 +38,7 @@ pub fn put_bytes(out: &mut [u8], at: usize, text: &[u8]) -> usize
 }
 
 // The digit of a number below 16.
+#[tactic(auto, unfolding(crate::specs::Text::glyph))]
 fn glyph(d: u64) -> u8
     requires { d < 16 }
     ensures { result ≡ glyphOf d }

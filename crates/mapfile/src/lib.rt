@@ -162,6 +162,7 @@ fn ask_at(file: &[u8], k: usize) -> Record
 }
 
 // The record of length n (kind and body) and of a kind, whose body stands at k.
+#[tactic(auto, unfolding(crate::specs::Records::kind_at))]
 fn kind_at(file: &[u8], n: u16, kind: u16, k: usize) -> Record
     requires { k + n ≤ length file.now + 2 }
     ensures { result ≡ kind_at file.now n kind k }
