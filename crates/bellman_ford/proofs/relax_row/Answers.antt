@@ -13,15 +13,15 @@ use Rattle.bellman_ford.proofs.relax_row.Goals.{In-loop-i}
 
 -- a place of the row is a place of the neighbour list
 module _ (c : In-loop-i) where
-  in-heads : c.loop-i.i < length c.args.heads.now
-  in-heads = omega (
+  in_heads : c.loop-i.i < length c.args.heads.now
+  in_heads = omega (
     arith,
     c.requires.fit.sound.heads
         c.args.u c.loop-i.invariant.state.index,
   )
 
-  in-weights : c.loop-i.i < length c.args.weights.now
-  in-weights = omega (
+  in_weights : c.loop-i.i < length c.args.weights.now
+  in_weights = omega (
     arith,
     c.requires.fit.sound.weights
         c.args.u c.loop-i.invariant.state.index,
@@ -31,19 +31,19 @@ pub loop-i-init : goal.loop-i-init
 loop-i-init c = row_first (to_z-of_z w64 _ (sfits_of c.d-1.given)) c.requires.fact
 
 pub offset_bounds-heads-i : goal.offset_bounds-heads-i
-offset_bounds-heads-i c = let h = in-heads c in search rules
+offset_bounds-heads-i c = let h = in_heads c in search rules
 
 pub bounds-heads-i : goal.bounds-heads-i
-bounds-heads-i c = in-heads (goal.at.bounds-heads-i c).In-loop-i
+bounds-heads-i c = in_heads (goal.at.bounds-heads-i c).In-loop-i
 
 pub overflow_cast-v : goal.overflow_cast-v
 overflow_cast-v c = omega (arith, c.shared_slice_known-in-loop-i-1.given c.loop-i.i)
 
 pub offset_bounds-weights-i : goal.offset_bounds-weights-i
-offset_bounds-weights-i c = let h = in-weights (goal.at.offset_bounds-weights-i c).In-loop-i in search rules
+offset_bounds-weights-i c = let h = in_weights (goal.at.offset_bounds-weights-i c).In-loop-i in search rules
 
 pub bounds-weights-i : goal.bounds-weights-i
-bounds-weights-i c = in-weights (goal.at.bounds-weights-i c).In-loop-i
+bounds-weights-i c = in_weights (goal.at.bounds-weights-i c).In-loop-i
 
 pub relax_arc-t-requires : goal.relax_arc-t-requires
 relax_arc-t-requires c = safe_at (to_z-of_z w64 _ (sfits_of c.relax_arc-arg-1.given)) (safe c.requires.fit c.loop-i.invariant.state c.loop-i-test.true)

@@ -13,11 +13,11 @@ use Rattle.bellman_ford.proofs.search.Goals.{In-loop-size}
 
 -- the first place of the ring, and what waits there
 module _ (c : In-loop-size) where
-  in-queue : c.loop-size.head < length c.loop-size.queue
-  in-queue = let r = c.loop-size.invariant.calm.held.ring in omega (arith, r.first, r.room_q)
+  in_queue : c.loop-size.head < length c.loop-size.queue
+  in_queue = let r = c.loop-size.invariant.calm.held.ring in omega (arith, r.first, r.room_q)
 
-  in-queued : get_or c.loop-size.queue c.loop-size.head 0 < length c.loop-size.queued
-  in-queued = omega (arith, turn_below c.loop-size.invariant c.loop-size-test.true, c.loop-size.invariant.calm.held.ring.room_d)
+  in_queued : get_or c.loop-size.queue c.loop-size.head 0 < length c.loop-size.queued
+  in_queued = omega (arith, turn_below c.loop-size.invariant c.loop-size-test.true, c.loop-size.invariant.calm.held.ring.room_d)
 
 pub store-requires : goal.store-requires
 store-requires c = omega (arith, c.requires.fit.below, c.requires.fresh.wide.dist)
@@ -32,16 +32,16 @@ pub loop-size-init : goal.loop-size-init
 loop-size-init c = (turn_first c.requires.fit c.requires.fresh c.store.ensures c.push-size.ensures).0
 
 pub offset_bounds-queue-head : goal.offset_bounds-queue-head
-offset_bounds-queue-head c = let h = in-queue c in search rules
+offset_bounds-queue-head c = let h = in_queue c in search rules
 
 pub bounds-queue-head : goal.bounds-queue-head
-bounds-queue-head c = in-queue (goal.at.bounds-queue-head c).In-loop-size
+bounds-queue-head c = in_queue (goal.at.bounds-queue-head c).In-loop-size
 
 pub offset_bounds-queued-u : goal.offset_bounds-queued-u
-offset_bounds-queued-u c = let h = in-queued (goal.at.offset_bounds-queued-u c).In-loop-size in search rules
+offset_bounds-queued-u c = let h = in_queued (goal.at.offset_bounds-queued-u c).In-loop-size in search rules
 
 pub bounds-queued-u : goal.bounds-queued-u
-bounds-queued-u c = in-queued (goal.at.bounds-queued-u c).In-loop-size
+bounds-queued-u c = in_queued (goal.at.bounds-queued-u c).In-loop-size
 
 pub slot-head-requires : goal.slot-head-requires
 slot-head-requires c =

@@ -26,11 +26,11 @@ module _ (e : Else-refused-ne0) where
   abbrev lent : Net ℤ
   lent = net_of start.args.map.bound start.args.map.count start.args.map.directed start.args.marks.now start.args.from.now start.args.to.now start.args.costs.now
 
-  no-refusal : refusal_no lent start.args.matrix.now start.args.ranks.now ≡ 0
-  no-refusal = sym e.refusal-refused.ensures ∙ e.if-refused-ne0.false
+  no_refusal : refusal_no lent start.args.matrix.now start.args.ranks.now ≡ 0
+  no_refusal = sym e.refusal-refused.ensures ∙ e.if-refused-ne0.false
 
   ready : Passed lent start.args.matrix.now start.args.ranks.now
-  ready = passed lent start.args.matrix.now start.args.ranks.now no-refusal
+  ready = passed lent start.args.matrix.now start.args.ranks.now no_refusal
 
   map_whole : Whole lent
   map_whole = whole_ints _ _ _ _ _ _ _ ready.whole
@@ -40,8 +40,8 @@ module _ (n : After-count_present-p) where
   rows : n.count_present-p.result ≡ width (lent (goal.at.After-count_present-p n).Else-refused-ne0)
   rows = n.count_present-p.ensures
 
-  few-rows : n.count_present-p.result ≤ 1024
-  few-rows = omega (arith, rows, width_small (map_whole (goal.at.After-count_present-p n).Else-refused-ne0))
+  few_rows : n.count_present-p.result ≤ 1024
+  few_rows = omega (arith, rows, width_small (map_whole (goal.at.After-count_present-p n).Else-refused-ne0))
 
   room : n.count_present-p.result * n.count_present-p.result ≤ length (start (goal.at.After-count_present-p n).Else-refused-ne0).args.matrix.now
   room = subst (λ (x : ℕ). x * x ≤ length (start (goal.at.After-count_present-p n).Else-refused-ne0).args.matrix.now) (sym rows) (ready (goal.at.After-count_present-p n).Else-refused-ne0).output
@@ -54,8 +54,8 @@ module _ (a : After-solve-negative) where
   abbrev solved : List ℤ
   solved = a.solve-negative.new.cells
 
-  solved-long : length solved ≡ counted.count_present-p.result * counted.count_present-p.result
-  solved-long = a.solve-negative.auto.cells ∙ length-take-le (counted.count_present-p.result * counted.count_present-p.result) (goal.at.After-solve-negative a).Start.args.matrix.now (room counted)
+  solved_long : length solved ≡ counted.count_present-p.result * counted.count_present-p.result
+  solved_long = a.solve-negative.auto.cells ∙ length-take-le (counted.count_present-p.result * counted.count_present-p.result) (goal.at.After-solve-negative a).Start.args.matrix.now (room counted)
 
 pub returns-then-refused-ne0 : goal.returns-then-refused-ne0
 returns-then-refused-ne0 c = refused _ _ _ _ c.refusal-refused.ensures c.if-refused-ne0.true
@@ -64,7 +64,7 @@ pub count_present-p-requires : goal.count_present-p-requires
 count_present-p-requires c = (map_whole c).marked
 
 pub overflow_mul-used : goal.overflow_mul-used
-overflow_mul-used c = omega (arith, square_small c.count_present-p.result (few-rows c))
+overflow_mul-used c = omega (arith, square_small c.count_present-p.result (few_rows c))
 
 pub set_ranks-requires : goal.set_ranks-requires
 set_ranks-requires c = ((map_whole (goal.at.set_ranks-requires c).Else-refused-ne0).marked, (ready (goal.at.set_ranks-requires c).Else-refused-ne0).scratch)
@@ -77,11 +77,11 @@ slice_bounds-solve-end-2 c = simp length-take (omega (arith, room (goal.at.slice
 
 pub solve-negative-requires : goal.solve-negative-requires
 solve-negative-requires c = (
-  sound (lent (goal.at.solve-negative-requires c).Else-refused-ne0) _ _ (no-refusal (goal.at.solve-negative-requires c).Else-refused-ne0),
-  ranked_of (lent (goal.at.solve-negative-requires c).Else-refused-ne0) _ _ (no-refusal (goal.at.solve-negative-requires c).Else-refused-ne0) c.set_ranks.ensures,
+  sound (lent (goal.at.solve-negative-requires c).Else-refused-ne0) _ _ (no_refusal (goal.at.solve-negative-requires c).Else-refused-ne0),
+  ranked_of (lent (goal.at.solve-negative-requires c).Else-refused-ne0) _ _ (no_refusal (goal.at.solve-negative-requires c).Else-refused-ne0) c.set_ranks.ensures,
   rows (goal.at.solve-negative-requires c).After-count_present-p,
   record {
-    few = few-rows (goal.at.solve-negative-requires c).After-count_present-p;
+    few = few_rows (goal.at.solve-negative-requires c).After-count_present-p;
     size = length-take-le (c.count_present-p.result * c.count_present-p.result)
         (start (goal.at.solve-negative-requires c).Else-refused-ne0).args.matrix.now (room (goal.at.solve-negative-requires c).After-count_present-p);
   },
@@ -95,7 +95,7 @@ blank_i64-requires c =
     let n = counted (goal.at.blank_i64-requires c).After-solve-negative in
     omega (
       arith,
-      solved-long (goal.at.blank_i64-requires c).After-solve-negative,
+      solved_long (goal.at.blank_i64-requires c).After-solve-negative,
       room n,
       length-append
           (solved (goal.at.blank_i64-requires c).After-solve-negative) (drop (n.count_present-p.result * n.count_present-p.result) c.args.matrix.now),
@@ -104,15 +104,15 @@ blank_i64-requires c =
 pub returns-then-negative : goal.returns-then-negative
 returns-then-negative c =
     let n = counted (goal.at.returns-then-negative c).After-solve-negative in
-    answer_negative (lent (goal.at.returns-then-negative c).Else-refused-ne0) _ _ (no-refusal (goal.at.returns-then-negative c).Else-refused-ne0) (rows n)
-    (solved (goal.at.returns-then-negative c).After-solve-negative) (solved-long (goal.at.returns-then-negative c).After-solve-negative) c.set_ranks.ensures
+    answer_negative (lent (goal.at.returns-then-negative c).Else-refused-ne0) _ _ (no_refusal (goal.at.returns-then-negative c).Else-refused-ne0) (rows n)
+    (solved (goal.at.returns-then-negative c).After-solve-negative) (solved_long (goal.at.returns-then-negative c).After-solve-negative) c.set_ranks.ensures
     c.clear_usize.ensures c.solve-negative.result c.solve-negative.ensures
     c.if-negative.true c.blank_i64.ensures
 
 pub returns : goal.returns
 returns c =
     let n = counted (goal.at.returns c).After-solve-negative in
-    answer_done (lent (goal.at.returns c).Else-refused-ne0) _ _ (no-refusal (goal.at.returns c).Else-refused-ne0) (rows n)
-    (solved (goal.at.returns c).After-solve-negative) (solved-long (goal.at.returns c).After-solve-negative) c.set_ranks.ensures c.clear_usize.ensures
+    answer_done (lent (goal.at.returns c).Else-refused-ne0) _ _ (no_refusal (goal.at.returns c).Else-refused-ne0) (rows n)
+    (solved (goal.at.returns c).After-solve-negative) (solved_long (goal.at.returns c).After-solve-negative) c.set_ranks.ensures c.clear_usize.ensures
     c.solve-negative.result c.solve-negative.ensures c.if-negative.false
     refl

@@ -19,8 +19,8 @@ use Rattle.floyd_warshall.proofs.lower_block.Goals as goal
 use Rattle.floyd_warshall.proofs.lower_block.Goals.{At-loop-x, In-loop-x, Start}
 
 -- a as it stands in its machine word
-a-is : (s : Start) → to_z w64 (of_z w64 s.args.a) ≡ s.args.a
-a-is s = to_z-of_z w64 s.args.a s.ranges.a
+a_is : (s : Start) → to_z w64 (of_z w64 s.args.a) ≡ s.args.a
+a_is s = to_z-of_z w64 s.args.a s.ranges.a
 
 -- in a turn: the places of the two entries, and the entries
 module _ (w : In-loop-x) where
@@ -39,11 +39,11 @@ module _ (w : In-loop-x) where
   in_place : (s.args.at + h.loop-x.x < length h.loop-x.cells) × (length h.loop-x.cells ≤ 1048576)
   in_place = (omega (arith, w.loop-x-test.true, h.loop-x.invariant.size, s.requires.within), omega (arith, h.loop-x.invariant.size, s.requires.few))
 
-  in-other : (s.args.by + h.loop-x.x < length h.loop-x.cells) × (length h.loop-x.cells ≤ 1048576)
-  in-other = (omega (arith, w.loop-x-test.true, h.loop-x.invariant.size, s.requires.across), omega (arith, h.loop-x.invariant.size, s.requires.few))
+  in_other : (s.args.by + h.loop-x.x < length h.loop-x.cells) × (length h.loop-x.cells ≤ 1048576)
+  in_other = (omega (arith, w.loop-x-test.true, h.loop-x.invariant.size, s.requires.across), omega (arith, h.loop-x.invariant.size, s.requires.few))
 
   held : Block s.args.at s.args.by (to_z w64 (of_z w64 s.args.a)) s.args.n s.args.cells.now
-  held = subst (λ (z : ℤ). Block s.args.at s.args.by z s.args.n s.args.cells.now) (sym (a-is s)) s.requires
+  held = subst (λ (z : ℤ). Block s.args.at s.args.by z s.args.n s.args.cells.now) (sym (a_is s)) s.requires
 
 pub loop-x-init : goal.loop-x-init
 loop-x-init c = lowering_first
@@ -58,17 +58,17 @@ pub slice_copy_out-shorter : goal.slice_copy_out-shorter
 slice_copy_out-shorter c = (in_place c).0
 
 pub overflow_add-by : goal.overflow_add-by
-overflow_add-by c = omega (arith, in-other (goal.at.overflow_add-by c).In-loop-x)
+overflow_add-by c = omega (arith, in_other (goal.at.overflow_add-by c).In-loop-x)
 
 pub offset_bounds-cells-by : goal.offset_bounds-cells-by
-offset_bounds-cells-by c = omega (arith, in-other (goal.at.offset_bounds-cells-by c).In-loop-x)
+offset_bounds-cells-by c = omega (arith, in_other (goal.at.offset_bounds-cells-by c).In-loop-x)
 
 pub slice_copy_out-shorter-in-loop-x : goal.slice_copy_out-shorter-in-loop-x
-slice_copy_out-shorter-in-loop-x c = (in-other (goal.at.slice_copy_out-shorter-in-loop-x c).In-loop-x).0
+slice_copy_out-shorter-in-loop-x c = (in_other (goal.at.slice_copy_out-shorter-in-loop-x c).In-loop-x).0
 
 pub shorter-requires : goal.shorter-requires
 shorter-requires c = (
-  rw (a-is (s (goal.at.shorter-requires c).In-loop-x)) (s (goal.at.shorter-requires c).In-loop-x).requires.small,
+  rw (a_is (s (goal.at.shorter-requires c).In-loop-x)) (s (goal.at.shorter-requires c).In-loop-x).requires.small,
   rw (to_z-of_z w64 (step (goal.at.shorter-requires c).In-loop-x) (sfits_of c.shorter-arg-in-loop-x-1.given))
       (lowering_small (h (goal.at.shorter-requires c).In-loop-x).loop-x.invariant (held (goal.at.shorter-requires c).In-loop-x) c.loop-x-test.true),
 )
@@ -92,10 +92,10 @@ loop-x-preserved c =
     (step (goal.at.loop-x-preserved c).In-loop-x) c.shorter.result (sfits_of c.shorter-arg-1.given) (s (goal.at.loop-x-preserved c).In-loop-x).ranges.a b in
     lowering_more (h (goal.at.loop-x-preserved c).In-loop-x).loop-x.invariant c.loop-x-test.true
     (read (sfits_of c.shorter.type_inv) c.shorter.ensures ∙ ap
-    (λ (z : ℤ). lesser (old (goal.at.loop-x-preserved c).In-loop-x) (z ⊕ step (goal.at.loop-x-preserved c).In-loop-x)) (sym (a-is (s (goal.at.loop-x-preserved c).In-loop-x))))
+    (λ (z : ℤ). lesser (old (goal.at.loop-x-preserved c).In-loop-x) (z ⊕ step (goal.at.loop-x-preserved c).In-loop-x)) (sym (a_is (s (goal.at.loop-x-preserved c).In-loop-x))))
 
 pub shape_of-cells : goal.shape_of-cells
 shape_of-cells c = c.loop-x.invariant.size
 
 pub returns : goal.returns
-returns c = lowering_done c.loop-x.invariant c.loop-x-test.false ∙ ap (λ (z : ℤ). block c.args.at c.args.by z c.args.n c.args.cells.now) (a-is (goal.at.returns c).Start)
+returns c = lowering_done c.loop-x.invariant c.loop-x-test.false ∙ ap (λ (z : ℤ). block c.args.at c.args.by z c.args.n c.args.cells.now) (a_is (goal.at.returns c).Start)

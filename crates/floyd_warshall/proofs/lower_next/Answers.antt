@@ -14,18 +14,18 @@ use Rattle.floyd_warshall.proofs.lower_next.Goals.{Start}
 
 -- what a block of e columns asks for and gives, with a as it stands in its machine word
 module _ (s : Start) where
-  a-is : to_z w64 (of_z w64 s.args.a) ≡ s.args.a
-  a-is = to_z-of_z w64 s.args.a s.ranges.a
+  a_is : to_z w64 (of_z w64 s.args.a) ≡ s.args.a
+  a_is = to_z-of_z w64 s.args.a s.ranges.a
 
   asked : {e : ℕ} → e ≤ s.args.left → Block s.args.at s.args.by (to_z w64 (of_z w64 s.args.a)) e s.args.cells.now
   asked {e} h =
       let b = s.requires.1 in
-      subst (λ (z : ℤ). Block s.args.at s.args.by z e s.args.cells.now) (sym a-is)
+      subst (λ (z : ℤ). Block s.args.at s.args.by z e s.args.cells.now) (sym a_is)
       (record { few = b.few; within = omega (arith, b.within); across = omega (arith, b.across); small = b.small; each = λ n q. b.each n (omega arith) })
 
   given : (n : ℕ) {l : List ℤ} → l ≡ block s.args.at s.args.by (to_z w64 (of_z w64 s.args.a)) n s.args.cells.now
       → l ≡ block s.args.at s.args.by s.args.a n s.args.cells.now
-  given n e = e ∙ ap (λ (z : ℤ). block s.args.at s.args.by z n s.args.cells.now) a-is
+  given n e = e ∙ ap (λ (z : ℤ). block s.args.at s.args.by z n s.args.cells.now) a_is
 
 pub lower_block-requires : goal.lower_block-requires
 lower_block-requires c = asked (goal.at.lower_block-requires c).Start (omega (arith, c.requires.0))

@@ -18,13 +18,13 @@ use Rattle.floyd_warshall.proofs.put_link.Goals as goal
 use Rattle.floyd_warshall.proofs.put_link.Goals.{After-cheaper, Start}
 
 -- with one arc, and with two
-linked-one : (d : Bool) (p : ℕ) (l : List ℤ) (i j : ℕ) (k : ℤ) → d ≡ true → linked d p l i j k ≡ lowered l (i * p + j) k
+linked_one : (d : Bool) (p : ℕ) (l : List ℤ) (i j : ℕ) (k : ℤ) → d ≡ true → linked d p l i j k ≡ lowered l (i * p + j) k
 unfolding linked
-linked-one d p l i j k e = ap (λ (t : Bool). cond t (lowered l (i * p + j) k) (lowered (lowered l (i * p + j) k) (j * p + i) k)) e
+linked_one d p l i j k e = ap (λ (t : Bool). cond t (lowered l (i * p + j) k) (lowered (lowered l (i * p + j) k) (j * p + i) k)) e
 
-linked-two : (d : Bool) (p : ℕ) (l : List ℤ) (i j : ℕ) (k : ℤ) → d ≡ false → linked d p l i j k ≡ lowered (lowered l (i * p + j) k) (j * p + i) k
+linked_two : (d : Bool) (p : ℕ) (l : List ℤ) (i j : ℕ) (k : ℤ) → d ≡ false → linked d p l i j k ≡ lowered (lowered l (i * p + j) k) (j * p + i) k
 unfolding linked
-linked-two d p l i j k e = ap (λ (t : Bool). cond t (lowered l (i * p + j) k) (lowered (lowered l (i * p + j) k) (j * p + i) k)) e
+linked_two d p l i j k e = ap (λ (t : Bool). cond t (lowered l (i * p + j) k) (lowered (lowered l (i * p + j) k) (j * p + i) k)) e
 
 lowered_is : (l : List ℤ) (x : ℕ) (k z : ℤ) → z ≡ lesser (get_or l x (pos 0)) k → set l x z ≡ lowered l x k
 unfolding lowered
@@ -38,11 +38,11 @@ module _ (s : Start) where
   abbrev y : ℕ
   y = s.args.j * s.args.p + s.args.i
 
-  inside-x : (x < length s.args.cells.now) × (length s.args.cells.now ≤ 1048576)
-  inside-x = (omega (arith, s.requires.0.size, place_in s.args.p s.args.i s.args.j s.requires.1 s.requires.2), omega (arith, s.requires.0.size, square_small s.args.p s.requires.0.few))
+  inside_x : (x < length s.args.cells.now) × (length s.args.cells.now ≤ 1048576)
+  inside_x = (omega (arith, s.requires.0.size, place_in s.args.p s.args.i s.args.j s.requires.1 s.requires.2), omega (arith, s.requires.0.size, square_small s.args.p s.requires.0.few))
 
-  inside-y : (y < length s.args.cells.now) × (length s.args.cells.now ≤ 1048576)
-  inside-y = (omega (arith, s.requires.0.size, place_in s.args.p s.args.j s.args.i s.requires.2 s.requires.1), omega (arith, s.requires.0.size, square_small s.args.p s.requires.0.few))
+  inside_y : (y < length s.args.cells.now) × (length s.args.cells.now ≤ 1048576)
+  inside_y = (omega (arith, s.requires.0.size, place_in s.args.p s.args.j s.args.i s.requires.2 s.requires.1), omega (arith, s.requires.0.size, square_small s.args.p s.requires.0.few))
 
 -- the entries after the first store
 abbrev stored : After-cheaper → List ℤ
@@ -55,7 +55,7 @@ once c =
     c.cheaper.ensures)
 
 pub returns-then-directed : goal.returns-then-directed
-returns-then-directed c = once (goal.at.returns-then-directed c).After-cheaper ∙ sym (linked-one c.args.directed _ _ _ _ _ c.if-directed.true)
+returns-then-directed c = once (goal.at.returns-then-directed c).After-cheaper ∙ sym (linked_one c.args.directed _ _ _ _ _ c.if-directed.true)
 
 pub returns : goal.returns
 returns c =
@@ -64,40 +64,40 @@ returns c =
     (read_cheaper (get_or (stored (goal.at.returns c).After-cheaper) (y (goal.at.returns c).Start) (pos 0)) k c.cheaper-2.result
     (sfits_of c.cheaper-arg-2-1.given) c.ranges.cost (sfits_of c.cheaper-2.type_inv) c.cheaper-2.ensures)
     ∙ ap (λ (t : List ℤ). lowered t (y (goal.at.returns c).Start) k) (once (goal.at.returns c).After-cheaper))
-    ∙ sym (linked-two c.args.directed _ _ _ _ _ c.if-directed.false)
+    ∙ sym (linked_two c.args.directed _ _ _ _ _ c.if-directed.false)
 
 pub overflow_mul-x : goal.overflow_mul-x
-overflow_mul-x c = omega (arith, inside-x c)
+overflow_mul-x c = omega (arith, inside_x c)
 
 pub overflow_add-x : goal.overflow_add-x
-overflow_add-x c = omega (arith, inside-x c)
+overflow_add-x c = omega (arith, inside_x c)
 
 pub offset_bounds-cells-x : goal.offset_bounds-cells-x
-offset_bounds-cells-x c = omega (arith, inside-x c)
+offset_bounds-cells-x c = omega (arith, inside_x c)
 
 pub slice_copy_out-cheaper : goal.slice_copy_out-cheaper
-slice_copy_out-cheaper c = (inside-x c).0
+slice_copy_out-cheaper c = (inside_x c).0
 
 pub offset_bounds-cells-x-2 : goal.offset_bounds-cells-x-2
-offset_bounds-cells-x-2 c = omega (arith, inside-x (goal.at.offset_bounds-cells-x-2 c).Start)
+offset_bounds-cells-x-2 c = omega (arith, inside_x (goal.at.offset_bounds-cells-x-2 c).Start)
 
 pub bounds-cells-x : goal.bounds-cells-x
-bounds-cells-x c = (inside-x (goal.at.bounds-cells-x c).Start).0
+bounds-cells-x c = (inside_x (goal.at.bounds-cells-x c).Start).0
 
 pub overflow_mul-y : goal.overflow_mul-y
-overflow_mul-y c = omega (arith, inside-y (goal.at.overflow_mul-y c).Start)
+overflow_mul-y c = omega (arith, inside_y (goal.at.overflow_mul-y c).Start)
 
 pub overflow_add-y : goal.overflow_add-y
-overflow_add-y c = omega (arith, inside-y (goal.at.overflow_add-y c).Start)
+overflow_add-y c = omega (arith, inside_y (goal.at.overflow_add-y c).Start)
 
 pub offset_bounds-cells-y : goal.offset_bounds-cells-y
-offset_bounds-cells-y c = omega (arith, inside-y (goal.at.offset_bounds-cells-y c).Start)
+offset_bounds-cells-y c = omega (arith, inside_y (goal.at.offset_bounds-cells-y c).Start)
 
 pub slice_copy_out-cheaper-2 : goal.slice_copy_out-cheaper-2
-slice_copy_out-cheaper-2 c = simp length-set (inside-y (goal.at.slice_copy_out-cheaper-2 c).Start).0
+slice_copy_out-cheaper-2 c = simp length-set (inside_y (goal.at.slice_copy_out-cheaper-2 c).Start).0
 
 pub offset_bounds-cells-y-2 : goal.offset_bounds-cells-y-2
-offset_bounds-cells-y-2 c = omega (arith, inside-y (goal.at.offset_bounds-cells-y-2 c).Start)
+offset_bounds-cells-y-2 c = omega (arith, inside_y (goal.at.offset_bounds-cells-y-2 c).Start)
 
 pub bounds-cells-y : goal.bounds-cells-y
-bounds-cells-y c = simp length-set (inside-y (goal.at.bounds-cells-y c).Start).0
+bounds-cells-y c = simp length-set (inside_y (goal.at.bounds-cells-y c).Start).0

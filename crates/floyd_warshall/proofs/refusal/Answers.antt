@@ -11,9 +11,9 @@ use Rattle.floyd_warshall.proofs.refusal.Goals as goal
 use Rattle.floyd_warshall.proofs.refusal.Goals.{Else-not-whole}
 
 -- past the first test: the map is whole
-whole-at : (e : Else-not-whole)
+whole_at : (e : Else-not-whole)
     → Whole (net_of e.args.map.bound e.args.map.count e.args.map.directed e.args.marks.now e.args.from.now e.args.to.now e.args.costs.now)
-whole-at e = whole_ints _ _ _ _ _ _ _ (sym e.whole.ensures ∙ not-false _ e.if-not-whole.false-raw)
+whole_at e = whole_ints _ _ _ _ _ _ _ (sym e.whole.ensures ∙ not-false _ e.if-not-whole.false-raw)
 
 pub returns-then-not-whole : goal.returns-then-not-whole
 returns-then-not-whole c = refused_limits _ _ _ (sym c.whole.ensures ∙ not-true _ c.if-not-whole.true-raw)
@@ -22,10 +22,10 @@ pub returns-then-ranks-map : goal.returns-then-ranks-map
 returns-then-ranks-map c = refused_ranks _ _ _ (sym c.whole.ensures ∙ not-false _ c.if-not-whole.false-raw) c.if-ranks-map.true
 
 pub count_present-p-requires : goal.count_present-p-requires
-count_present-p-requires c = (whole-at (goal.at.count_present-p-requires c).Else-not-whole).marked
+count_present-p-requires c = (whole_at (goal.at.count_present-p-requires c).Else-not-whole).marked
 
 pub overflow_mul-p : goal.overflow_mul-p
-overflow_mul-p c = omega (arith, square_small c.count_present-p.result (omega (arith, c.count_present-p.ensures, width_small (whole-at (goal.at.overflow_mul-p c).Else-not-whole))))
+overflow_mul-p c = omega (arith, square_small c.count_present-p.result (omega (arith, c.count_present-p.ensures, width_small (whole_at (goal.at.overflow_mul-p c).Else-not-whole))))
 
 pub returns-then-matrix-p : goal.returns-then-matrix-p
 returns-then-matrix-p c = refused_matrix _ _ _ (sym c.whole.ensures ∙ not-false _ c.if-not-whole.false-raw) c.if-ranks-map.false _ c.count_present-p.ensures c.if-matrix-p.true

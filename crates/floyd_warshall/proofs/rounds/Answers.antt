@@ -26,42 +26,42 @@ use Rattle.floyd_warshall.proofs.rounds.Goals.{then-reaches+else-columns-test, e
 
 -- ---- at the head of the k loop
 module _ (h : At-rounds) where
-  abbrev p-of : ℕ
-  p-of = h.args.p
+  abbrev p_of : ℕ
+  p_of = h.args.p
 
   abbrev first : List ℤ
   first = h.args.cells.now
 
-  round-at : Round p-of first h.rounds.k h.rounds.cells
-  round-at = h.rounds.invariant.1
+  round_at : Round p_of first h.rounds.k h.rounds.cells
+  round_at = h.rounds.invariant.1
 
-  few : p-of * p-of ≤ 1048576
-  few = square_small p-of h.requires.few
+  few : p_of * p_of ≤ 1048576
+  few = square_small p_of h.requires.few
 
   -- an entry lies in a matrix of the size
-  inside : (l : List ℤ) → length l ≡ p-of * p-of → (u v : ℕ) → u < p-of → v < p-of → (u * p-of + v < length l) × (length l ≤ 1048576)
-  inside l s u v i j = (omega (arith, s, place_in p-of u v i j), omega (arith, s, few))
+  inside : (l : List ℤ) → length l ≡ p_of * p_of → (u v : ℕ) → u < p_of → v < p_of → (u * p_of + v < length l) × (length l ≤ 1048576)
+  inside l s u v i j = (omega (arith, s, place_in p_of u v i j), omega (arith, s, few))
 
 -- ---- at the head of the i loop
 module _ (h : At-rows) where
   abbrev outer : At-rounds
   outer = (goal.at.At-rows h).At-rounds
 
-  abbrev k-of : ℕ
-  k-of = outer.rounds.k
+  abbrev k_of : ℕ
+  k_of = outer.rounds.k
 
-  rows_at : Rows (p-of outer) (first outer) k-of h.rows.i h.rows.cells
-  rows_at = h.rows.invariant.1 (first outer) (round-at outer)
+  rows_at : Rows (p_of outer) (first outer) k_of h.rows.i h.rows.cells
+  rows_at = h.rows.invariant.1 (first outer) (round_at outer)
 
   -- the entry of the row in column k
-  abbrev a-of : ℤ
-  a-of = cell (p-of outer) h.rows.cells h.rows.i k-of
+  abbrev a_of : ℤ
+  a_of = cell (p_of outer) h.rows.cells h.rows.i k_of
 
-  a-is : {l₀ : List ℤ} → Rows (p-of outer) l₀ k-of h.rows.i h.rows.cells → h.rows.i < p-of outer → a-of ≡ after (cell (p-of outer) l₀) k-of h.rows.i k-of
-  a-is r i = r.next h.rows.i k-of (omega arith) i r.turn
+  a_is : {l₀ : List ℤ} → Rows (p_of outer) l₀ k_of h.rows.i h.rows.cells → h.rows.i < p_of outer → a_of ≡ after (cell (p_of outer) l₀) k_of h.rows.i k_of
+  a_is r i = r.next h.rows.i k_of (omega arith) i r.turn
 
-  inside-a : h.rows.i < p-of outer → (h.rows.i * p-of outer + k-of < length h.rows.cells) × (length h.rows.cells ≤ 1048576)
-  inside-a i = inside outer h.rows.cells rows_at.size h.rows.i k-of i rows_at.turn
+  inside_a : h.rows.i < p_of outer → (h.rows.i * p_of outer + k_of < length h.rows.cells) × (length h.rows.cells ≤ 1048576)
+  inside_a i = inside outer h.rows.cells rows_at.size h.rows.i k_of i rows_at.turn
 
 -- ---- at the head of the j loop
 module _ (h : At-columns) where
@@ -69,18 +69,18 @@ module _ (h : At-columns) where
   middle = (goal.at.At-columns h).At-rows
 
   abbrev width : ℕ
-  width = p-of (outer middle)
+  width = p_of (outer middle)
 
-  turn_at : Turn width (first (outer middle)) (k-of middle) middle.rows.i h.columns.j h.columns.cells
+  turn_at : Turn width (first (outer middle)) (k_of middle) middle.rows.i h.columns.j h.columns.cells
   turn_at = (h.columns.invariant.1 (first (outer middle)) (rows_at middle)).0
 
   -- the place of the next column in a row
-  inside-row : (u : ℕ) → u < width → h.columns.j < width → (u * width + h.columns.j < length h.columns.cells) × (length h.columns.cells ≤ 1048576)
-  inside-row u i j = inside (outer middle) h.columns.cells turn_at.size u h.columns.j i j
+  inside_row : (u : ℕ) → u < width → h.columns.j < width → (u * width + h.columns.j < length h.columns.cells) × (length h.columns.cells ≤ 1048576)
+  inside_row u i j = inside (outer middle) h.columns.cells turn_at.size u h.columns.j i j
 
   -- the entry in column k, as it is passed on
-  passed : {l₀ : List ℤ} → Rows width l₀ (k-of middle) middle.rows.i middle.rows.cells → to_z w64 (of_z w64 (a-of middle)) ≡ after (cell width l₀) (k-of middle) middle.rows.i (k-of middle)
-  passed r = to_z-of_z w64 (a-of middle) (sfits_of h.a-1.given) ∙ a-is middle r turn_at.here
+  passed : {l₀ : List ℤ} → Rows width l₀ (k_of middle) middle.rows.i middle.rows.cells → to_z w64 (of_z w64 (a_of middle)) ≡ after (cell width l₀) (k_of middle) middle.rows.i (k_of middle)
+  passed r = to_z-of_z w64 (a_of middle) (sfits_of h.a-1.given) ∙ a_is middle r turn_at.here
 
 -- ---- after a block of columns
 module _ (b : After-lower_next-j) where
@@ -93,20 +93,20 @@ module _ (b : After-lower_next-j) where
   abbrev end_of : ℕ
   end_of = inner.columns.j + b.lower_next-j.result
 
-  block_at : {l₀ : List ℤ} → Rows (width inner) l₀ (k-of (middle inner)) (middle inner).rows.i (middle inner).rows.cells
-      → Turn (width inner) l₀ (k-of (middle inner)) (middle inner).rows.i end_of lowered
+  block_at : {l₀ : List ℤ} → Rows (width inner) l₀ (k_of (middle inner)) (middle inner).rows.i (middle inner).rows.cells
+      → Turn (width inner) l₀ (k_of (middle inner)) (middle inner).rows.i end_of lowered
   block_at {l₀} r =
       let m = b.lower_next-j.ensures in
       block_done (inner.columns.invariant.1 l₀ r).0 (passed inner r) b.lower_next-j.result (omega (arith, m.1, b.columns-test.true)) m.2
 
-  block_here : Turn (width inner) (first (outer (middle inner))) (k-of (middle inner)) (middle inner).rows.i end_of lowered
+  block_here : Turn (width inner) (first (outer (middle inner))) (k_of (middle inner)) (middle inner).rows.i end_of lowered
   block_here = block_at (rows_at (middle inner))
 
   abbrev diagonal : ℤ
   diagonal = cell (width inner) lowered (middle inner).rows.i (middle inner).rows.i
 
-  inside-diagonal : ((middle inner).rows.i * width inner + (middle inner).rows.i < length lowered) × (length lowered ≤ 1048576)
-  inside-diagonal = inside (outer (middle inner)) lowered block_here.size (middle inner).rows.i (middle inner).rows.i block_here.here block_here.here
+  inside_diagonal : ((middle inner).rows.i * width inner + (middle inner).rows.i < length lowered) × (length lowered ≤ 1048576)
+  inside_diagonal = inside (outer (middle inner)) lowered block_here.size (middle inner).rows.i (middle inner).rows.i block_here.here block_here.here
 
 pub rounds-init : goal.rounds-init
 rounds-init c = (refl, round_first c.requires)
@@ -115,13 +115,13 @@ pub overflow_mul-through : goal.overflow_mul-through
 overflow_mul-through c =
     omega (
       arith,
-      inside (goal.at.overflow_mul-through c).At-rounds c.rounds.cells (round-at (goal.at.overflow_mul-through c).At-rounds).size c.rounds.k
+      inside (goal.at.overflow_mul-through c).At-rounds c.rounds.cells (round_at (goal.at.overflow_mul-through c).At-rounds).size c.rounds.k
           c.rounds.k c.rounds-test.true c.rounds-test.true,
     )
 
 pub any_below-falls-requires : goal.any_below-falls-requires
 any_below-falls-requires c =
-    let at = inside (goal.at.any_below-falls-requires c).At-rounds c.rounds.cells (round-at (goal.at.any_below-falls-requires c).At-rounds).size c.rounds.k in
+    let at = inside (goal.at.any_below-falls-requires c).At-rounds c.rounds.cells (round_at (goal.at.any_below-falls-requires c).At-rounds).size c.rounds.k in
     let k = c.rounds-test.true in
     record { few = c.requires.few; short = omega arith; early = omega (arith, at c.rounds.k k k); within = λ j i. omega (arith, at j k i) }
 
@@ -129,29 +129,29 @@ pub rows-init : goal.rows-init
 rows-init c = (c.rounds.invariant.0, λ l₀ r. rows_first c.rounds-test.true r)
 
 pub overflow_mul-row : goal.overflow_mul-row
-overflow_mul-row c = omega (arith, inside-a (goal.at.overflow_mul-row c).At-rows c.rows-test.true)
+overflow_mul-row c = omega (arith, inside_a (goal.at.overflow_mul-row c).At-rows c.rows-test.true)
 
 pub overflow_add-a : goal.overflow_add-a
-overflow_add-a c = omega (arith, inside-a (goal.at.overflow_add-a c).At-rows c.rows-test.true)
+overflow_add-a c = omega (arith, inside_a (goal.at.overflow_add-a c).At-rows c.rows-test.true)
 
 pub offset_bounds-cells-row : goal.offset_bounds-cells-row
-offset_bounds-cells-row c = omega (arith, inside-a (goal.at.offset_bounds-cells-row c).At-rows c.rows-test.true)
+offset_bounds-cells-row c = omega (arith, inside_a (goal.at.offset_bounds-cells-row c).At-rows c.rows-test.true)
 
 pub slice_copy_out-a : goal.slice_copy_out-a
-slice_copy_out-a c = (inside-a (goal.at.slice_copy_out-a c).At-rows c.rows-test.true).0
+slice_copy_out-a c = (inside_a (goal.at.slice_copy_out-a c).At-rows c.rows-test.true).0
 
 pub columns-init : goal.columns-init
 columns-init c = let i = c.rows-test.true in (refl, λ l₀ r. (turn_first i r, up_first i r))
 
 pub overflow_add-row : goal.overflow_add-row
 overflow_add-row c =
-    omega (arith, inside-row (goal.at.overflow_add-row c).At-columns (middle (goal.at.overflow_add-row c).At-columns).rows.i (turn_at (goal.at.overflow_add-row c).At-columns).here c.columns-test.true)
+    omega (arith, inside_row (goal.at.overflow_add-row c).At-columns (middle (goal.at.overflow_add-row c).At-columns).rows.i (turn_at (goal.at.overflow_add-row c).At-columns).here c.columns-test.true)
 
 pub overflow_add-through : goal.overflow_add-through
 overflow_add-through c =
     omega (
       arith,
-      inside-row (goal.at.overflow_add-through c).At-columns (k-of (middle (goal.at.overflow_add-through c).At-columns))
+      inside_row (goal.at.overflow_add-through c).At-columns (k_of (middle (goal.at.overflow_add-through c).At-columns))
           (turn_at (goal.at.overflow_add-through c).At-columns).turn c.columns-test.true,
     )
 
@@ -167,13 +167,13 @@ pub overflow_add-j : goal.overflow_add-j
 overflow_add-j c = omega (arith, (block_here (goal.at.overflow_add-j c).After-lower_next-j).at, (outer (middle (inner (goal.at.overflow_add-j c).After-lower_next-j))).requires.few)
 
 pub overflow_add-row-in-columns : goal.overflow_add-row-in-columns
-overflow_add-row-in-columns c = omega (arith, inside-diagonal (goal.at.overflow_add-row-in-columns c).After-lower_next-j)
+overflow_add-row-in-columns c = omega (arith, inside_diagonal (goal.at.overflow_add-row-in-columns c).After-lower_next-j)
 
 pub offset_bounds-cells-row-in-columns : goal.offset_bounds-cells-row-in-columns
-offset_bounds-cells-row-in-columns c = omega (arith, inside-diagonal (goal.at.offset_bounds-cells-row-in-columns c).After-lower_next-j)
+offset_bounds-cells-row-in-columns c = omega (arith, inside_diagonal (goal.at.offset_bounds-cells-row-in-columns c).After-lower_next-j)
 
 pub slice_copy_out-lower : goal.slice_copy_out-lower
-slice_copy_out-lower c = (inside-diagonal (goal.at.slice_copy_out-lower c).After-lower_next-j).0
+slice_copy_out-lower c = (inside_diagonal (goal.at.slice_copy_out-lower c).After-lower_next-j).0
 
 -- the test of the diagonal entry, of the number itself
 tested : (c : After-lower) → c.lower.result ≡ lt_z (diagonal (goal.at.After-lower c).After-lower_next-j) (pos 0)
@@ -188,7 +188,7 @@ columns-preserved c =
     ((inner (goal.at.columns-preserved c).After-lower_next-j).columns.invariant.0, λ l₀ r. (block_at (goal.at.columns-preserved c).After-lower_next-j r, omega (arith, zed)))
 
 pub overflow_add-i : goal.overflow_add-i
-overflow_add-i c = omega (arith, inside-a (goal.at.overflow_add-i c).At-rows c.rows-test.true)
+overflow_add-i c = omega (arith, inside_a (goal.at.overflow_add-i c).At-rows c.rows-test.true)
 
 -- a row that was gone through, and one that was left
 pub rows-preserved : goal.rows-preserved
@@ -205,7 +205,7 @@ rows-preserved c = elim c.if-reaches.branch [
         let r = c.rows.invariant.1 l₀ o in
         let i = c.rows-test.true in
         subst (Rows c.args.p l₀ c.rounds.k (c.rows.i + 1)) (sym v.cells-is)
-        (row_skipped i o r c.any_below-falls.ensures (to_z-of_z w64 (a-of (goal.at.rows-preserved c).At-rows) (sfits_of c.a-1.given) ∙ a-is
+        (row_skipped i o r c.any_below-falls.ensures (to_z-of_z w64 (a_of (goal.at.rows-preserved c).At-rows) (sfits_of c.a-1.given) ∙ a_is
         (goal.at.rows-preserved c).At-rows r i) (sym c.reaches.ensures ∙ v.if-reaches.false)),
   )
 ]
@@ -217,12 +217,12 @@ pub rounds-preserved : goal.rounds-preserved
 rounds-preserved c = (c.rows.invariant.0, round_done c.rows-test.false (rows_at (goal.at.rounds-preserved c).At-rows))
 
 pub shape_of-cells-after-rounds : goal.shape_of-cells-after-rounds
-shape_of-cells-after-rounds c = (round-at (goal.at.shape_of-cells-after-rounds c).At-rounds).size ∙ sym c.requires.size
+shape_of-cells-after-rounds c = (round_at (goal.at.shape_of-cells-after-rounds c).At-rounds).size ∙ sym c.requires.size
 
 pub returns-after-rounds : goal.returns-after-rounds
 returns-after-rounds c =
-    subst (Rounded (p-of (goal.at.returns-after-rounds c).At-rounds) (first (goal.at.returns-after-rounds c).At-rounds) c.rounds.cells)
-    (sym c.rounds.invariant.0) (complete c.rounds-test.false (round-at (goal.at.returns-after-rounds c).At-rounds))
+    subst (Rounded (p_of (goal.at.returns-after-rounds c).At-rounds) (first (goal.at.returns-after-rounds c).At-rounds) c.rounds.cells)
+    (sym c.rounds.invariant.0) (complete c.rounds-test.false (round_at (goal.at.returns-after-rounds c).At-rounds))
 
 pub shape_of-cells-then-lower : goal.shape_of-cells-then-lower
 shape_of-cells-then-lower c =

@@ -15,18 +15,18 @@ use Rattle.floyd_warshall.proofs.shorter.Goals as goal
 use Rattle.floyd_warshall.proofs.shorter.Goals.{Start}
 
 -- the machine's sum is the sum
-machine-sum : (a b : ℤ) → SFits w64 a → SFits w64 b → to_z w64 (of_z w64 a) ⊕ to_z w64 (of_z w64 b) ≡ a ⊕ b
-machine-sum a b f g = λ i. to_z-of_z w64 a f i ⊕ to_z-of_z w64 b g i
+machine_sum : (a b : ℤ) → SFits w64 a → SFits w64 b → to_z w64 (of_z w64 a) ⊕ to_z w64 (of_z w64 b) ≡ a ⊕ b
+machine_sum a b f g = λ i. to_z-of_z w64 a f i ⊕ to_z-of_z w64 b g i
 
 fits_sum : (a b : ℤ) → Within (2 ^ 60) a → Within (2 ^ 60) b → SFits w64 (a ⊕ b)
 fits_sum a b h k = omega (arith, zed, sum a b)
 
 pub overflow_add-s : goal.overflow_add-s
-overflow_add-s c = subst (SFits w64) (sym (machine-sum c.args.a c.args.b c.ranges.a c.ranges.b)) (fits_sum c.args.a c.args.b c.requires.0 c.requires.1)
+overflow_add-s c = subst (SFits w64) (sym (machine_sum c.args.a c.args.b c.ranges.a c.ranges.b)) (fits_sum c.args.a c.args.b c.requires.0 c.requires.1)
 
 -- the sum and the test, of the numbers themselves
 sum_is : (s : Start) → to_z w64 (of_z w64 (to_z w64 (of_z w64 s.args.a) ⊕ to_z w64 (of_z w64 s.args.b))) ≡ s.args.a ⊕ s.args.b
-sum_is s = to_z-of_z w64 _ (overflow_add-s s) ∙ machine-sum s.args.a s.args.b s.ranges.a s.ranges.b
+sum_is s = to_z-of_z w64 _ (overflow_add-s s) ∙ machine_sum s.args.a s.args.b s.ranges.a s.ranges.b
 
 picked : (s : Start) {t : Bool} → lt_z (to_z w64 (of_z w64 (to_z w64 (of_z w64 s.args.a) ⊕ to_z w64 (of_z w64 s.args.b)))) (to_z w64 (of_z w64 s.args.old)) ≡ t
     → lesser s.args.old (s.args.a ⊕ s.args.b) ≡ pick_z t (s.args.a ⊕ s.args.b) s.args.old

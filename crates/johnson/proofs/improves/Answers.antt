@@ -18,13 +18,13 @@ module _ (c : After-lower) where
   abbrev s : ℤ
   s = label c.args.heights.now c.args.u ⊕ get_or c.args.costs.now c.args.k (pos 0)
 
-  n-is : to_z w64 (of_z w64 c.sum_at-n.result) ≡ s
-  n-is = to_z-of_z w64 _ (sfits_of c.sum_at-n.type_inv) ∙ c.sum_at-n.ensures.0
+  n_is : to_z w64 (of_z w64 c.sum_at-n.result) ≡ s
+  n_is = to_z-of_z w64 _ (sfits_of c.sum_at-n.type_inv) ∙ c.sum_at-n.ensures.0
 
   gave : c.lower.result ≡ lowers c.args.u c.args.v
       (get_or c.args.costs.now c.args.k (pos 0)) c.args.heights.now
   unfolding lowers
-  gave = c.lower.ensures ∙ (λ i. lt_z (n-is i) (to_z-of_z w64 (label c.args.heights.now c.args.v) (sfits_of c.lower-arg-1.given) i))
+  gave = c.lower.ensures ∙ (λ i. lt_z (n_is i) (to_z-of_z w64 (label c.args.heights.now c.args.v) (sfits_of c.lower-arg-1.given) i))
 
 pub returns : goal.returns
 returns c = (gave c, c.sum_at-n.ensures.1)

@@ -25,13 +25,13 @@ module _ (e : Else-refused-ne0) where
       scratch_of e.args.offsets.now e.args.heads.now e.args.weights.now e.args.heights.now e.args.dist.now e.args.preds.now
       e.args.peaks.now e.args.words.now e.args.keys.now
 
-  no-refusal : refusal_no lent e.args.matrix.now scratch ≡ 0
-  no-refusal = sym e.refusal-refused.ensures ∙ e.if-refused-ne0.false
+  no_refusal : refusal_no lent e.args.matrix.now scratch ≡ 0
+  no_refusal = sym e.refusal-refused.ensures ∙ e.if-refused-ne0.false
 
   map_whole : Whole lent
   map_whole =
       limits e.args.map.bound e.args.map.count e.args.map.directed e.args.marks.now e.args.from.now e.args.to.now e.args.costs.now
-      e.args.matrix.now scratch no-refusal
+      e.args.matrix.now scratch no_refusal
 
 pub returns-then-refused-ne0 : goal.returns-then-refused-ne0
 returns-then-refused-ne0 c = refused _ _ _ _ c.refusal-refused.ensures c.if-refused-ne0.true
@@ -43,10 +43,10 @@ pub count_present-p-requires : goal.count_present-p-requires
 count_present-p-requires c = (map_whole (goal.at.count_present-p-requires c).Else-refused-ne0).marked
 
 pub solve-negative-requires : goal.solve-negative-requires
-solve-negative-requires c = passed _ _ _ (no-refusal (goal.at.solve-negative-requires c).Else-refused-ne0)
+solve-negative-requires c = passed _ _ _ (no_refusal (goal.at.solve-negative-requires c).Else-refused-ne0)
 
 pub wipe-requires : goal.wipe-requires
-wipe-requires c = room_after _ _ _ (no-refusal (goal.at.wipe-requires c).Else-refused-ne0) c.most_arcs-a.ensures c.solve-negative.ensures
+wipe-requires c = room_after _ _ _ (no_refusal (goal.at.wipe-requires c).Else-refused-ne0) c.most_arcs-a.ensures c.solve-negative.ensures
 
 pub overflow_mul-p : goal.overflow_mul-p
 overflow_mul-p c =
@@ -57,7 +57,7 @@ overflow_mul-p c =
 pub blank_i64-requires : goal.blank_i64-requires
 blank_i64-requires c =
     let p = (goal.at.blank_i64-requires c).Else-refused-ne0 in
-    blank_room _ _ _ (no-refusal p) c.most_arcs-a.ensures c.solve-negative.ensures c.wipe.ensures c.count_present-p.ensures
+    blank_room _ _ _ (no_refusal p) c.most_arcs-a.ensures c.solve-negative.ensures c.wipe.ensures c.count_present-p.ensures
 
 pub shape_of-matrix-then-negative : goal.shape_of-matrix-then-negative
 shape_of-matrix-then-negative c = c.blank_i64.auto.s ∙ c.solve-negative.auto.matrix
@@ -92,7 +92,7 @@ shape_of-keys-then-negative c = c.wipe.auto.keys ∙ c.solve-negative.auto.keys
 pub returns-then-negative : goal.returns-then-negative
 returns-then-negative c =
     let p = (goal.at.returns-then-negative c).Else-refused-ne0 in
-    answer_yes _ _ _ (no-refusal p) c.most_arcs-a.ensures c.solve-negative.ensures c.wipe.ensures
+    answer_yes _ _ _ (no_refusal p) c.most_arcs-a.ensures c.solve-negative.ensures c.wipe.ensures
     c.count_present-p.ensures c.blank_i64.ensures c.if-negative.true
 
 pub shape_of-matrix : goal.shape_of-matrix
@@ -128,4 +128,4 @@ shape_of-keys c = c.wipe.auto.keys ∙ c.solve-negative.auto.keys
 pub returns : goal.returns
 returns c =
     let p = (goal.at.returns c).Else-refused-ne0 in
-    answer_no _ _ _ (no-refusal p) c.most_arcs-a.ensures c.solve-negative.ensures c.wipe.ensures c.if-negative.false
+    answer_no _ _ _ (no_refusal p) c.most_arcs-a.ensures c.solve-negative.ensures c.wipe.ensures c.if-negative.false

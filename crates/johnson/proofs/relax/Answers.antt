@@ -22,15 +22,15 @@ module _ (c : After-lower) where
       label c.args.heights.now c.args.u
       ⊕ get_or c.args.costs.now c.args.k (pos 0)
 
-  n-is : to_z w64 (of_z w64 c.sum_at-n.result) ≡ s
-  n-is = to_z-of_z w64 _ (sfits_of c.sum_at-n.type_inv) ∙ c.sum_at-n.ensures.0
+  n_is : to_z w64 (of_z w64 c.sum_at-n.result) ≡ s
+  n_is = to_z-of_z w64 _ (sfits_of c.sum_at-n.type_inv) ∙ c.sum_at-n.ensures.0
 
   gave : c.lower.result ≡ lowers c.args.u c.args.v
       (get_or c.args.costs.now c.args.k (pos 0)) c.args.heights.now
   unfolding lowers
   gave =
       c.lower.ensures
-      ∙ (λ i. lt_z (n-is i) (to_z-of_z w64 (label c.args.heights.now c.args.v) (sfits_of c.lower-arg-1.given) i))
+      ∙ (λ i. lt_z (n_is i) (to_z-of_z w64 (label c.args.heights.now c.args.v) (sfits_of c.lower-arg-1.given) i))
 
 pub returns-then-not-lower : goal.returns-then-not-lower
 returns-then-not-lower c =
@@ -42,4 +42,4 @@ pub returns : goal.returns
 returns c =
     let a = c.args in
     let q = sym (gave (goal.at.returns c).After-lower) ∙ not-false _ c.if-not-lower.false-raw in
-    (sym q, c.sum_at-n.ensures.1, ap (set a.heights.now a.v) (n-is (goal.at.returns c).After-lower) ∙ sym (lowered_yes a.u a.v (get_or a.costs.now a.k (pos 0)) a.heights.now q))
+    (sym q, c.sum_at-n.ensures.1, ap (set a.heights.now a.v) (n_is (goal.at.returns c).After-lower) ∙ sym (lowered_yes a.u a.v (get_or a.costs.now a.k (pos 0)) a.heights.now q))

@@ -18,22 +18,22 @@ module _ (c : After-result-1) where
   abbrev k : ℤ
   k = get_or c.args.costs.now c.args.k (pos 0)
 
-  d-fits : SFits w64 d
-  d-fits = record { sfits = c.d-1.given }
+  d_fits : SFits w64 d
+  d_fits = record { sfits = c.d-1.given }
 
-  k-fits : SFits w32 k
-  k-fits = record { sfits = c.result-1.given }
+  k_fits : SFits w32 k
+  k_fits = record { sfits = c.result-1.given }
 
-  n-fits : SFits w64 (machine d k)
-  n-fits =
-      let e : SFits w32 k = k-fits in
-      rw (machine_is d k d-fits k-fits) (omega (arith, zed, sum d k, c.requires.2.high, c.requires.2.low))
+  n_fits : SFits w64 (machine d k)
+  n_fits =
+      let e : SFits w32 k = k_fits in
+      rw (machine_is d k d_fits k_fits) (omega (arith, zed, sum d k, c.requires.2.high, c.requires.2.low))
 
 pub overflow_cast-result : goal.overflow_cast-result
-overflow_cast-result c = rw (to_z-of_z w32 (k c) (k-fits c)) (widen (k-fits c))
+overflow_cast-result c = rw (to_z-of_z w32 (k c) (k_fits c)) (widen (k_fits c))
 
 pub overflow_add-result : goal.overflow_add-result
-overflow_add-result c = n-fits c
+overflow_add-result c = n_fits c
 
 pub returns : goal.returns
-returns c = (machine_back (d c) (k c) (d-fits c) (k-fits c) (n-fits c), fits_in w32 (k c) (k-fits c))
+returns c = (machine_back (d c) (k c) (d_fits c) (k_fits c) (n_fits c), fits_in w32 (k c) (k_fits c))

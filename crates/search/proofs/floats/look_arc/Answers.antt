@@ -22,8 +22,8 @@ module _ (b : After-better) where
 
 -- distance and predecessor are stored
 module _ (n : After-set_pred) where
-  worth-it : n.better.result ≡ true
-  worth-it = not-false _ n.if-not-better.false-raw
+  worth_it : n.better.result ≡ true
+  worth_it = not-false _ n.if-not-better.false-raw
 
 pub better-requires : goal.better-requires
 better-requires c =
@@ -39,12 +39,12 @@ push_or_lower-requires c =
       bag = c.requires.bag;
       v_in_bounds = c.requires.in_b;
       not_above = arc_lower (test (goal.at.push_or_lower-requires c).After-better)
-          (worth-it (goal.at.push_or_lower-requires c).After-set_pred) e e c.requires;
+          (worth_it (goal.at.push_or_lower-requires c).After-set_pred) e e c.requires;
       ok = sum_dist c.args.d c.args.bits e c.requires.dist c.requires.cost;
     }
 
 pub returns : goal.returns
 returns c =
     let e = c.plus-next.ensures in
-    arc_stored (test (goal.at.returns c).After-better) (worth-it (goal.at.returns c).After-set_pred) e e c.store.ensures c.set_pred.ensures
+    arc_stored (test (goal.at.returns c).After-better) (worth_it (goal.at.returns c).After-set_pred) e e c.store.ensures c.set_pred.ensures
     (c.push_or_lower.ensures.bag_2, c.push_or_lower.ensures.keys_after)

@@ -26,8 +26,8 @@ use Rattle.search.proofs.ints.look_arc.Goals.{After-better, After-key-k}
 -- the sum was made and tested
 module _ (b : After-better) where
   -- it is that of the numbers themselves
-  n-is : to_z w64 (of_z w64 b.plus-n.result) ≡ b.args.d ⊕ b.args.c
-  n-is =
+  n_is : to_z w64 (of_z w64 b.plus-n.result) ≡ b.args.d ⊕ b.args.c
+  n_is =
       to_z-of_z w64 _ (sfits_of b.plus-n.type_inv)
       ∙ (b.plus-n.ensures ∙ (λ i. to_z-of_z w64 b.args.d b.ranges.d i ⊕ to_z-of_z w64 b.args.c b.ranges.c i))
 
@@ -35,15 +35,15 @@ module _ (b : After-better) where
   test : b.better.result ≡ worth (guided b.args.guess.now) (b.args.d ⊕ b.args.c) (get_or b.args.dist.now b.args.v none_i64)
   test =
       b.better.ensures ∙ better_at_lem b.args.guess.now _ _
-      ∙ ap (λ (z : ℤ). worth (guided b.args.guess.now) z (get_or b.args.dist.now b.args.v none_i64)) n-is
+      ∙ ap (λ (z : ℤ). worth (guided b.args.guess.now) z (get_or b.args.dist.now b.args.v none_i64)) n_is
 
 -- the key was made
 module _ (k : After-key-k) where
-  k-is : to_z w64 (of_z w64 k.key-k.result) ≡ key_of k.args.guess.now (k.args.d ⊕ k.args.c) k.args.v
-  k-is = to_z-of_z w64 _ (sfits_of k.key-k.type_inv) ∙ k.key-k.ensures ∙ ap (λ (z : ℤ). key_of k.args.guess.now z k.args.v) (n-is (goal.at.After-key-k k).After-better)
+  k_is : to_z w64 (of_z w64 k.key-k.result) ≡ key_of k.args.guess.now (k.args.d ⊕ k.args.c) k.args.v
+  k_is = to_z-of_z w64 _ (sfits_of k.key-k.type_inv) ∙ k.key-k.ensures ∙ ap (λ (z : ℤ). key_of k.args.guess.now z k.args.v) (n_is (goal.at.After-key-k k).After-better)
 
-  worth-it : k.better.result ≡ true
-  worth-it = not-false _ k.if-not-better.false-raw
+  worth_it : k.better.result ≡ true
+  worth_it = not-false _ k.if-not-better.false-raw
 
 pub plus-n-requires : goal.plus-n-requires
 plus-n-requires c = rw (to_z-of_z w64 c.args.d c.ranges.d, to_z-of_z w64 c.args.c c.ranges.c) (parts_small c.requires.safe.dist c.requires.safe.cost c.requires.in_range)
@@ -56,7 +56,7 @@ key-k-requires c =
     record {
       fair = c.requires.in_range.fair;
       pos_bound = subst (λ (z : ℤ). (pos 0 ≤ℤ z) × (z ≤ℤ pos (far + dear)))
-          (sym (n-is (goal.at.key-k-requires c).After-better)) (sum_small c.requires.safe.dist c.requires.safe.cost c.requires.in_range);
+          (sym (n_is (goal.at.key-k-requires c).After-better)) (sum_small c.requires.safe.dist c.requires.safe.cost c.requires.in_range);
     }
 
 pub push_or_lower-requires : goal.push_or_lower-requires
@@ -65,14 +65,14 @@ push_or_lower-requires c =
       bag = c.requires.safe.bag;
       v_in_bounds = c.requires.safe.in_b;
       not_above = arc_lower (test (goal.at.push_or_lower-requires c).After-better)
-          (worth-it (goal.at.push_or_lower-requires c).After-key-k) (n-is (goal.at.push_or_lower-requires c).After-better)
-          (k-is (goal.at.push_or_lower-requires c).After-key-k) c.requires.safe;
-      ok = subst Near (sym (k-is (goal.at.push_or_lower-requires c).After-key-k))
+          (worth_it (goal.at.push_or_lower-requires c).After-key-k) (n_is (goal.at.push_or_lower-requires c).After-better)
+          (k_is (goal.at.push_or_lower-requires c).After-key-k) c.requires.safe;
+      ok = subst Near (sym (k_is (goal.at.push_or_lower-requires c).After-key-k))
           (sum_near c.requires.safe.dist c.requires.safe.cost c.requires.in_range);
     }
 
 pub returns : goal.returns
 returns c =
-    arc_stored (test (goal.at.returns c).After-better) (worth-it (goal.at.returns c).After-key-k) (n-is (goal.at.returns c).After-better)
-    (k-is (goal.at.returns c).After-key-k) c.store.ensures c.set_pred.ensures
+    arc_stored (test (goal.at.returns c).After-better) (worth_it (goal.at.returns c).After-key-k) (n_is (goal.at.returns c).After-better)
+    (k_is (goal.at.returns c).After-key-k) c.store.ensures c.set_pred.ensures
     (c.push_or_lower.ensures.bag_2, c.push_or_lower.ensures.keys_after)

@@ -21,8 +21,8 @@ use Rattle.search.proofs.ints.start.Goals.{After-key-k}
 -- the key was made
 module _ (k : After-key-k) where
   -- it is that of the numbers themselves
-  k-is : to_z w64 (of_z w64 k.key-k.result) ≡ key_of k.args.guess.now (pos 0) k.args.source
-  k-is = to_z-of_z w64 _ (sfits_of k.key-k.type_inv) ∙ k.key-k.ensures
+  k_is : to_z w64 (of_z w64 k.key-k.result) ≡ key_of k.args.guess.now (pos 0) k.args.source
+  k_is = to_z-of_z w64 _ (sfits_of k.key-k.type_inv) ∙ k.key-k.ensures
 
 pub push_or_lower-requires : goal.push_or_lower-requires
 push_or_lower-requires c =
@@ -31,7 +31,7 @@ push_or_lower-requires c =
       v_in_bounds = c.requires.source_in_bounds;
       not_above = empty_lower c.requires.fresh c.args.source _;
       ok = subst
-          Near (sym (k-is (goal.at.push_or_lower-requires c).After-key-k)) (key_near _ (pos 0) _ c.requires.fair (omega (arith, zed)) (omega (arith, zed)));
+          Near (sym (k_is (goal.at.push_or_lower-requires c).After-key-k)) (key_near _ (pos 0) _ c.requires.fair (omega (arith, zed)) (omega (arith, zed)));
     }
 
 pub returns : goal.returns
@@ -41,7 +41,7 @@ returns c =
       dist = c.store.ensures;
       preds = c.set_pred.ensures;
       bag = p.ensures.bag_2;
-      content = p.ensures.keys_after ∙ ap (λ (z : ℤ). set (content_of c.args.words.now c.args.keys.now) c.args.source (some z)) (k-is (goal.at.returns c).After-key-k);
+      content = p.ensures.keys_after ∙ ap (λ (z : ℤ). set (content_of c.args.words.now c.args.keys.now) c.args.source (some z)) (k_is (goal.at.returns c).After-key-k);
     }
 
 pub store-requires : goal.store-requires
