@@ -1,7 +1,11 @@
 """How the tools beside this file read the tree: public functions of .rt files, definitions of .antt files, and the tables of documents."""
+import functools
 import glob
+import json
 import os
 import re
+import shutil
+import subprocess
 
 SPACE = re.compile(r"\s+")
 
@@ -28,21 +32,31 @@ class Function:
         self.params, self.result, self.head = params, result, head
         self.fields = struct_fields(found, result)
         self.written = [p for p, kind in params if LENT.search(kind) or holders & set(re.findall(r"\w+", kind))]
-        self.requires = [text for word, text in clauses if word == "requires"]
-        self.ensures = [contract(text) for word, text in clauses if word == "ensures"]
+        self.ghosts = [name for word, name, _ in clauses if word == "ghost"]
+        self.requires = [text for word, _, text in clauses if word.startswith("requires")]
+        self.ensures = [contract(word, text) for word, _, text in clauses if word.startswith("ensures")]
 
 
-def contract(text):
-    """The name of the result and the statement, of `λ r. ⌜ statement ⌝`, with the values of the names that a `let` before it gives; of another form, no name
-    and all of it. Names are without « and »."""
-    text = flat(re.sub("[«»]", "", text))
-    m = re.match(r"λ (\S+?)\. ((?:let \S+ = [^⌜⌝]*? in )*)⌜([^⌜⌝]*)⌝$", text)
-    if not m:
-        return "_", text
-    statement = m.group(3).strip()
-    for name, value in reversed(re.findall(r"let (\S+) = (.*?) in (?=let |$)", m.group(2))):
-        statement = re.sub(r"(?<![^\s(])" + re.escape(name) + r"(?![^\s)])", lambda _: "(" + value + ")", statement)
-    return m.group(1), statement
+def contract(word, text):
+    """Is a clause a fact, and what it states, with the values of the names that a `let` before it gives. A clause with a star is no fact, but an assertion of
+    memory. Names are without « and »."""
+    statement = flat(re.sub("[«»]", "", text))
+    return not word.endswith("*"), with_values(statement)
+
+
+def with_values(statement):
+    """A statement without the `let` before it: the value, in brackets, for each name."""
+    m = re.match(r"let (\S+)(?: : .*?)? = ", statement)
+    parts = split_top(statement[m.end():], " in ") if m else []
+    if len(parts) < 2 or any(re.search(r"\blet\b", part) for part in parts[:1]):
+        return statement
+    rest = statement[m.end() + len(parts[0]) + len(" in "):]
+    return with_values(re.sub(word_of(m.group(1)), lambda _: "(" + parts[0].strip() + ")", rest))
+
+
+def word_of(name):
+    """A pattern for a name where it is a word, which may have a field behind it."""
+    return r"(?<![^\s(){}\[\],;])" + re.escape(name) + r"(?![^\s(){}\[\],;.])"
 
 
 def closing(text, at):
@@ -99,7 +113,10 @@ def code_of(path, text):
     return NO_CODE["antt" if path.endswith(".antt") else "source" if path.endswith(SOURCES) else "script"].sub(" ", text)
 
 
+# a clause of a contract: its word, its name where it has one
+CLAUSE = re.compile(r"\s*((?:requires|ensures)\*?|ghost)(?:\s+([^\s{}:*]+):?)?\s*\{")
 FN = re.compile(r'\bpub\s+(?:[\w"]+\s+)*fn\s+(\w+)\s*(<[^>]*>)?\s*\(')
+GHOST = re.compile(r"\s*(?:pub\s+)?ghost\b")
 LENT = re.compile(r"&\s*('\w+\s+)?mut\b")
 
 
@@ -151,17 +168,19 @@ def function_at(root, place, file, found, m, holders):
     arrow = re.match(r"\s*->\s*", text[at:])
     if arrow:
         at += arrow.end()
-        stop = re.search(r"\b(requires|ensures|decreases)\b|\{", text[at:]).start()
+        stop = re.search(r"\b(where|ghost|requires|ensures)\b|\{", text[at:]).start()
         result = flat(text[at:at + stop])
         at += stop
+    bounds = re.match(r"\s*where\b.*?(?=\b(?:ghost|requires|ensures)\b|\{)", text[at:], re.S)
+    at += bounds.end() if bounds else 0
     head = [x for x in text[m.start():at].split("\n") if x.strip()]
     while True:
-        word = re.match(r"\s*(requires|ensures|decreases)\s*\{", text[at:])
+        word = CLAUSE.match(text[at:])
         if not word:
             break
         opened = at + word.end() - 1
         end = closing(text, opened)
-        clauses.append((word.group(1), text[opened + 1:end]))
+        clauses.append((word.group(1), word.group(2), text[opened + 1:end]))
         head.append(flat(text[at:end + 1]))
         at = end + 1
     owner = ""
@@ -173,13 +192,13 @@ def function_at(root, place, file, found, m, holders):
 
 
 def struct_fields(found, name):
-    """The fields of a struct declared in the sources of a crate, or none where they declare no such struct."""
+    """The fields of a struct declared in the sources of a crate but what is stated of them, or none where they declare no such struct."""
     name = re.sub(r"<.*", "", name).split("::")[-1]
     for text in found.values():
         m = re.search(r"\bstruct\s+" + re.escape(name) + r"\s*(<[^>]*>)?\s*\{", text)
         if m:
             body = text[m.end():closing(text, m.end() - 1)]
-            return [f.split(":")[0].split()[-1] for f in split_top(body, ",") if ":" in f]
+            return [f.split(":")[0].split()[-1] for f in split_top(body, ",") if ":" in f and not GHOST.match(f)]
     return None
 
 
@@ -236,16 +255,16 @@ def whole_lines(lines):
 
 def module_file(module):
     """The file, below crates/, that a module path names, with a mark for what a source declares."""
-    m = re.match(r"Rattle·(\w+?)(?:·specs|·proofs)?\.(specs|proofs)\.(.+)$", module)
+    m = re.match(r"Rattle\.(\w+)\.(specs|proofs)\.(.+)$", module)
     if not m:
         return None
     crate, part, rest = m.groups()
     if part == "specs" and rest.startswith("declared."):
-        return crate + "/src declared " + rest.split(".")[1]
+        return crate + "/src declared " + re.sub(r"\.TheVariants$", "", rest).split(".")[-1]
     return "%s/%s/%s.antt" % (crate, part, rest.replace(".", "/"))
 
 
-def imports(text, word=r"use ", end=""):
+def imports(text, word=r"(?:pub )?use ", end=""):
     """What a file imports."""
     names, aliases = {}, {}
     for m in re.finditer(r"(?m)^" + word + r"(\S+?)(?:\.\{([^}]*)\}| as (\S+?))?" + end + r"\s*$", text):
@@ -254,10 +273,70 @@ def imports(text, word=r"use ", end=""):
             for item in listed.split(","):
                 part = item.strip().split(" as ")
                 name, own = part[0].strip(), part[-1].strip()
-                names[own] = names[own.strip("_")] = (module, name)
-        elif alias:
-            aliases[alias] = module
+                names[own] = names[own.strip("◌")] = (module, name)
+        else:
+            aliases[alias or module.split(".")[-1]] = module
     return Imports(names, aliases)
+
+
+# ---- the library of the toolchain
+
+
+@functools.lru_cache(maxsize=None)
+def kit():
+    """The folder of the toolchain's sources, and where the modules of its logic lie; nothing where there is no toolchain."""
+    rt = shutil.which("rt") or shutil.which("rt", path="/opt/rattle/bin")
+    top = os.path.join(os.path.dirname(subprocess.run([rt, "doc"], capture_output=True, text=True, check=True).stdout.strip()), "rattle") if rt else ""
+    project = os.path.join(top, "logic", "antt-project.json")
+    mounts = json.loads(read(project))["mounts"] if os.path.exists(project) else {}
+    return top, {name: os.path.join(top, "logic", folder) for name, folder in mounts.items()}
+
+
+@functools.lru_cache(maxsize=None)
+def passed_on(file):
+    """What a file of the library passes on: for each name the module and the name there, and for each module its path."""
+    names, modules = {}, {}
+    for m in re.finditer(r"(?m)^(?:unfoldable )?pub use (\S+?)(?:\.\{([^}]*)\}| as (\S+))?\s*$", read(file) if os.path.exists(file) else ""):
+        module, listed, alias = m.groups()
+        for item in (listed or "").split(","):
+            part = item.strip().split(" as ")
+            names[part[-1].strip()] = (module, part[0].strip())
+        if listed is None:
+            modules[alias or module.split(".")[-1]] = module
+    return names, modules
+
+
+def origin(module, name):
+    """The module and the name of a thing of the library, where it is declared and not only passed on."""
+    for _ in range(20):
+        folder, rest = placed(module)
+        if not folder:
+            break
+        file = os.path.join(folder, *rest) + ".antt"
+        names, _ = passed_on(file)
+        if name in names:
+            module, name = names[name]
+            continue
+        for k in range(len(rest)) if not os.path.exists(file) else ():
+            _, modules = passed_on(os.path.join(folder, *rest[:k], "Lib.antt") if k == 0 else os.path.join(folder, *rest[:k]) + ".antt")
+            if rest[k] in modules:
+                module = ".".join([modules[rest[k]]] + rest[k + 1:])
+                break
+        else:
+            break
+    return module, name
+
+
+def placed(module):
+    """The folder of the library that a module's file lies in, and its path there; no folder where it is none of the library."""
+    top, mounts = kit()
+    parts = module.split(".")
+    if parts[0] == "Rattle" and len(parts) > 3 and parts[2] in ("specs", "proofs"):
+        folder, rest = os.path.join(top, parts[1], parts[2]), parts[3:]
+    else:
+        folder, rest = mounts.get(parts[0], ""), parts[1:]
+        folder = os.path.join(folder, "src") if os.path.isdir(os.path.join(folder, "src")) else folder
+    return (folder, rest) if top and rest and os.path.isdir(folder) else ("", rest)
 
 
 START = re.compile(r"^(?:(?:abbrev|unfoldable|opaque)\s+)*(?:pub\s+)?(?:(abbrev|unfoldable)\s+)?(?:pub\s+)?(?:(record|data)\s+)?([^\s:(){}]+)(.*)$")
@@ -269,7 +348,7 @@ class File:
     def __init__(self, root, file):
         self.file = file
         self.text = read(os.path.join(root, "crates", file))
-        self.imports = imports(self.text)
+        self.imports, self.passed = imports(self.text), imports(self.text, "pub use ")
         self.defs = {}
         self.scan()
 
@@ -277,7 +356,7 @@ class File:
         around, current, head = [], None, ""
         for number, line in enumerate(self.text.split("\n"), 1):
             code = re.sub(r"\s*--\s.*$", "", line) if not line.strip().startswith("--") else ""
-            if not code.strip() or re.match(r"(use|infix\w*|pub mod) ", code):
+            if not code.strip() or re.match(r"(use|pub use|infix\w*|mod|pub mod) ", code):
                 continue
             # the head of a section may take several lines
             code, head = head + code, ""
@@ -297,7 +376,7 @@ class File:
                 current = Definition(self.file, m.group(3), number, [a[1] for a in around])
                 current.kind = m.group(2) or ""
                 current.public = bool(re.match(r"\s*(?:(?:abbrev|unfoldable|opaque)\s+)*pub\s", code))
-                for name in {current.name, current.name.strip("_")}:
+                for name in {current.name, current.name.strip("◌")}:
                     self.defs[name] = current
                 current.statement.append(code)
             elif current is None:
@@ -318,12 +397,14 @@ class File:
         return any(re.match(r"\s*(unfolding\b|" + re.escape(d.name) + r"(\s|$))", x) for x in d.lines[1:])
 
     def words(self, text):
-        """The names in a text that may stand for definitions, without fields and the fields of records that are built."""
+        """The names in a text that may stand for definitions, without fields and the fields of records that are built: of `a.b` both `a.b`, which a module's
+        short name may begin, and `a`."""
         text = re.sub(r"([{;]\s*)[^\s={};]+\s*=(?=\s)", r"\1", text)
         for word in re.split(r"[\s(){}\[\],;]+", text):
-            word = re.sub(r"\.$", "", word)
-            if word and not word.startswith("."):
+            word = re.sub(r"\.$", "", word.strip("«»"))
+            while word and not word.startswith("."):
                 yield word
+                word = word.rpartition(".")[0]
 
 
 class Tree:
@@ -353,7 +434,7 @@ class Tree:
                 self.sources[file] = self.declared(*file.split("/src declared "))
             return self.sources[file]
         f = self.file(file)
-        return f.defs.get(name) if f else None
+        return (f.defs.get(name) or (self.found(f.passed, name) if name in f.passed.names else None)) if f else None
 
     def declared(self, crate, name):
         """A struct or enum of a source, as a definition."""
@@ -451,7 +532,7 @@ def quoted(text):
 
 
 def theorems(root, tree, trouble):
-    """The theorems that the first table of the audit page names: question, file and definition; `..-end` stands for all public ones of that end."""
+    """The theorems that the first table of the audit page names: question, file and definition; `.._end` stands for all public ones of that end."""
     out, question = [], ""
     for row in tables(read(os.path.join(root, "docs", "AUDIT.md")))[0][1]:
         question = row[0] or question
