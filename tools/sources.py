@@ -47,11 +47,14 @@ def contract(word, text):
 def with_values(statement):
     """A statement without the `let` before it: the value, in brackets, for each name."""
     m = re.match(r"let (\S+)(?: : .*?)? = ", statement)
-    parts = split_top(statement[m.end():], " in ") if m else []
-    if len(parts) < 2 or any(re.search(r"\blet\b", part) for part in parts[:1]):
+    if not m:
         return statement
-    rest = statement[m.end() + len(parts[0]) + len(" in "):]
-    return with_values(re.sub(word_of(m.group(1)), lambda _: "(" + parts[0].strip() + ")", rest))
+    parts, last = split_top(statement[m.end():], " in "), 1
+    # a value may have a `let` of its own
+    while last < len(parts) and sum(part.strip().startswith("let ") for part in parts[:last]) >= last:
+        last += 1
+    value = "(" + " in ".join(parts[:last]).strip() + ")"
+    return with_values(re.sub(word_of(m.group(1)), lambda _: value, " in ".join(parts[last:])))
 
 
 def word_of(name):

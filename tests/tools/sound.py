@@ -17,10 +17,14 @@ LIB, SUMS, ONE = "crates/small/src/lib.rt", "crates/small/specs/Sums.antt", "cra
 SOUND = {
     "Makefile": "test:\n\ttrue\n",
     "crates.txt": "small:\n",
-    "crates/small/src/lib.rt": """ghost use mathlib.Core.Path.{_≡_};
-ghost use Rattle·small·specs.specs.Sums.{twice, Told, packed};
+    "crates/small/src/lib.rt": """// Small functions.
+#![tactic(auto)]
+
+ghost use Rattle.std.specs.Prelude.{◌≡◌, ◌≤◌, length};
+ghost use Rattle.small.specs.Sums.{twice, Told, packed};
 
 // What a count answers.
+#[derive(Drop)]
 pub struct Count {
     pub number: usize,
     pub length: usize,
@@ -28,38 +32,39 @@ pub struct Count {
 
 // Twice a number.
 pub fn double(n: usize) -> usize
-    requires { ⌜ n ≤ 100 ⌝ }
-    ensures { λ r. ⌜ r ≡ twice n ⌝ }
+    requires { n ≤ 100 }
+    ensures { result ≡ twice n }
 {
     n + n
 }
 
 // A number told in a slice.
 pub fn tell(out: &mut [u8], n: usize) -> usize
-    ensures { λ r. ⌜ Told n (now (out .entry)) (now (out .exit)) r ⌝ }
+    ensures { Told n out.old out.new result }
 {
     n
 }
 
 // Two numbers, as a record.
 pub fn count(out: &mut [u8], n: usize) -> Count
-    ensures { λ r. ⌜ packed (r .number) (r .length) (now (out .exit)) ≡ packed n (twice n) (now (out .entry)) ⌝ }
+    ensures { packed result.number result.length out.new ≡ packed n (twice n) out.old }
 {
-    Count { number: n, length: n + n }
+    Count {
+        number: n,
+        length: n + n,
+    }
 }
 
 // A place that is left open.
 pub fn somewhere(out: &mut [u8])
-    ensures { λ _. ⌜ length (now (out .exit)) ≡ length (now (out .entry)) ⌝ }
+    ensures { length out.new ≡ length out.old }
 {
     out[0] = 0;
 }
 """,
     "crates/small/must-fail/thrice.edit": "file: specs/Sums.antt\nold: n + n\nnew: n + n + n\n",
     "crates/small/specs/Sums.antt": """-- Small definitions.
-use mathlib.Core.Path.{_≡_}
-use mathlib.Core.List.{List}
-use Prim.Native.Nat.{ℕ, _+_}
+use Rattle.std.specs.Prelude.{◌≡◌, List, ℕ, ◌+◌}
 
 -- twice a number
 abbrev pub twice : ℕ → ℕ
@@ -81,46 +86,44 @@ abbrev pub packed : ℕ → ℕ → List ℕ → Counted
 packed x n l = record { number = x; length = n; out = l }
 """,
     "crates/small/proofs/One.antt": """-- One answer.
-use mathlib.Core.Path.{_≡_, sym, _∙_}
-use mathlib.Core.List.{List}
-use Prim.Native.Nat.{ℕ}
-use Rattle·small·specs.specs.Sums.{Told, twice}
+use mathlib.Core.Path.{◌≡◌, sym, ◌∙◌}
+use Rattle.std.proofs.Common.{List, ℕ}
+use Rattle.small.specs.Sums.{Told, twice}
 
 -- what is told is one thing
-pub told-one : {n r s : ℕ} {b x y : List ℕ} → Told n b x r → Told n b y s → (x ≡ y) × (r ≡ s)
-told-one p q = (p .kept ∙ sym (q .kept), p .is ∙ sym (q .is))
+pub told_one : {n r s : ℕ} {b x y : List ℕ} → Told n b x r → Told n b y s → (x ≡ y) × (r ≡ s)
+told_one p q = (p.kept ∙ sym q.kept, p.is ∙ sym q.is)
 
 -- twice is twice
-pub twice-is : (n : ℕ) → twice n ≡ twice n
-twice-is n = refl
+pub twice_is : (n : ℕ) → twice n ≡ twice n
+twice_is n = refl
 
 module _ (k : ℕ) where
-  pub twice-again : twice k ≡ twice k
-  twice-again = refl
+  pub twice_again : twice k ≡ twice k
+  twice_again = refl
 """,
     "crates/audit/proofs/Lean.antt": """-- What leans on the theorems.
-use mathlib.Core.Path.{_≡_, sym}
-use Prim.Native.Nat.{ℕ}
-use Rattle·small.specs.Sums.{twice}
-use Rattle·small.proofs.One.{twice-is}
-use Rattle·small.proofs.One as one
+use Rattle.std.proofs.Common.{◌≡◌, sym, ℕ}
+use Rattle.small.specs.Sums.{twice}
+use Rattle.small.proofs.One.{twice_is}
+use Rattle.small.proofs.One as one
 
-pub twice-turned : (n : ℕ) → twice n ≡ twice n
-twice-turned n = sym (twice-is n)
+pub twice_turned : (n : ℕ) → twice n ≡ twice n
+twice_turned n = sym (twice_is n)
 
-pub again-turned : (k : ℕ) → twice k ≡ twice k
-again-turned k = sym (one.twice-again k)
+pub again_turned : (k : ℕ) → twice k ≡ twice k
+again_turned k = sym (one.twice_again k)
 """,
-    "docs/SETTLED.md": "# Settled\n\n| Function | Law |\n|---|---|\n| `small::tell` | `small/proofs/One.antt` `told-one` |\n| `small::count` | by equation |\n",
+    "docs/SETTLED.md": "# Settled\n\n| Function | Law |\n|---|---|\n| `small::tell` | `small/proofs/One.antt` `told_one` |\n| `small::count` | by equation |\n",
     "docs/EXCEPTIONS.md": "# Exceptions\n\n| Function | Left open | Cause |\n|---|---|---|\n| `small::somewhere` | the slice | none |\n\n## Shut out\n\n| Function | What | Cause |\n|---|---|---|\n| `small::double` | large numbers | none |\n",
     "docs/SCRATCH.md": "# Scratch\n\nNone.\n",
-    "docs/TRACE.md": "# Trace\n\n| ID | Requirement | Where |\n|---|---|---|\n| A | `not looked at` | `small/specs/Sums.antt` `Told`; `small/proofs/One.antt` `told-one`, `..-one` |\n",
+    "docs/TRACE.md": "# Trace\n\n| ID | Requirement | Where |\n|---|---|---|\n| A | `not looked at` | `small/specs/Sums.antt` `Told`; `small/proofs/One.antt` `told_one`, `.._one` |\n",
     "docs/AUDIT.md": """# Audit
 
 | Question | Theorem | File | In words |
 |---|---|---|---|
-| twice? | `twice-is` | `small/proofs/One.antt` | it is |
-| | `..-again` | `small/proofs/One.antt` | it is, again |
+| twice? | `twice_is` | `small/proofs/One.antt` | it is |
+| | `.._again` | `small/proofs/One.antt` | it is, again |
 
 ## What must be believed
 
@@ -205,21 +208,21 @@ SOUND["docs/STATEMENTS.md"] = loaded("statements").OPENING + """
 
 ## twice?
 
-### `twice-is`
+### `twice_is`
 
-`small/proofs/One.antt`; on it lean `audit/proofs/Lean.antt` `twice-turned`
+`small/proofs/One.antt`; on it lean `audit/proofs/Lean.antt` `twice_turned`
 
 ```
-pub twice-is : (n : ℕ) → twice n ≡ twice n
+pub twice_is : (n : ℕ) → twice n ≡ twice n
 ```
 
-### `twice-again`
+### `twice_again`
 
-`small/proofs/One.antt`; on it lean `audit/proofs/Lean.antt` `again-turned`
+`small/proofs/One.antt`; on it lean `audit/proofs/Lean.antt` `again_turned`
 
 ```
 module _ (k : ℕ) where
-  pub twice-again : twice k ≡ twice k
+  pub twice_again : twice k ≡ twice k
 ```
 """
 

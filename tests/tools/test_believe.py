@@ -10,9 +10,9 @@ MORE, SHEET, AUDIT = "crates/small/specs/More.antt", "crates/sheet/specs/Sheet.a
 TREE = dict(SOUND, **{
     MORE: """-- More.
 use Prim.Native.Nat.{ℕ, _+_}
-use Rattle·small·specs.specs.Sums.{twice as doubled}
-use Rattle·small·specs.specs.Deep as deep
-use Rattle·small·specs.specs.declared.Count.{Count}
+use Rattle.small.specs.Sums.{twice as doubled}
+use Rattle.small.specs.Deep as deep
+use Rattle.small.specs.declared.Count.{Count}
 infixl 6 _⊕_
 
 module _ (k : deep.Kind) where
@@ -47,24 +47,24 @@ unused = 5
     ONE: SOUND[ONE] + """
 module _ (w : deep.Wide) where
   -- its statement alone is believed, not its proof
-  pub six-is : (p : Pair)
+  pub six_is : (p : Pair)
     → p .first ≡ pair .second → left ≡ left
-  six-is p = unused
+  six_is p = unused
 
-hidden-is : unused ≡ deepest
-hidden-is = refl
+hidden_is : unused ≡ deepest
+hidden_is = refl
 """,
-    "crates/sheet/src/lib.rt": """ghost use Rattle·sheet·specs.specs.Sheet.{Sheet};
+    "crates/sheet/src/lib.rt": """ghost use Rattle.sheet.specs.Sheet.{Sheet};
 
 // A sheet.
 pub fn sheet(out: &mut [u8])
 
     // nothing is demanded
-    ensures { λ _. ⌜ Sheet (now (out .exit)) ⌝ }
+    ensures { λ _. ⌜ Sheet out.new ⌝ }
 {
 }
 """,
-    SHEET: "use Rattle·small·specs.specs.Sums.{twice}\npub Sheet : List ℕ → Type 0\nSheet l =\n\n  length l ≡ twice 4\n",
+    SHEET: "use Rattle.small.specs.Sums.{twice}\npub Sheet : List ℕ → Type 0\nSheet l =\n\n  length l ≡ twice 4\n",
     "docs/SETTLED.md": SOUND["docs/SETTLED.md"] + "| `sheet::sheet` | by equation |\n\n| Function | Law |\n|---|---|\n| `small::double` | by equation |\n",
     AUDIT: """# Audit
 
@@ -92,7 +92,7 @@ The last one rows are the map file, its sheet and the C functions; the questions
 | `small/specs/Sums.antt` | 1 |
 """,
 })
-TREE[ONE] = TREE[ONE].replace("{Told, twice}\n", "{Told, twice}\nuse Rattle·small·specs.specs.More.{Pair, pair, left, unused}\nuse Rattle·small·specs.specs.Deep as deep\nuse Rattle·small·specs.specs.Deep.{deepest}\n")
+TREE[ONE] = TREE[ONE].replace("{Told, twice}\n", "{Told, twice}\nuse Rattle.small.specs.More.{Pair, pair, left, unused}\nuse Rattle.small.specs.Deep as deep\nuse Rattle.small.specs.Deep.{deepest}\n")
 
 BREAKS = [
     # the table: lines of a file, a file that is not reached, one that is not told, one told twice, their sum
@@ -118,7 +118,7 @@ BREAKS = [
     (AUDIT, "6 lines of the 3 contracts", "7 lines of the 3 contracts", "does not say once: 6 lines of the 3 contracts"),
     (AUDIT, "6 lines of the 3 contracts", "6 lines of the 4 contracts", "does not say once: 6 lines of the 3 contracts"),
     (AUDIT, "contracts: `make test`", "contracts, 7 lines of the 3 contracts", "does not say once: 6 lines of the 3 contracts"),
-    (LIB, "(now (out .exit)) r ⌝ }", "(now (out .exit)) r ⌝ }\n    ensures { λ _. ⌜ 0 ≤ n ⌝ }", "does not say once: 7 lines of the 3 contracts"),
+    (LIB, "out.new r ⌝ }", "out.new r ⌝ }\n    ensures { λ _. ⌜ 0 ≤ n ⌝ }", "does not say once: 7 lines of the 3 contracts"),
     (LIB, "pub fn tell(out: &mut [u8], n: usize) -> usize", "pub fn tell(\n    out: &mut [u8],\n    n: usize,\n) -> usize", "does not say once: 9 lines"),
     ("docs/SETTLED.md", "`sheet::sheet`", "`sheet::sheets`", "no public function sheet::sheets"),
     ("docs/SETTLED.md", "| `sheet::sheet` | by equation |\n", "", "does not say once: 4 lines of the 2 contracts"),
@@ -151,7 +151,7 @@ BROKEN = [
     (SUMS, "pub kept : after ≡ before", "pub kept :\n      after\n      ≡ before"),
     (SUMS, "packed x n l = ", "packed x\n    (n)\n    (l) = "),
     (MORE, "module _ (k : deep.Kind) where", "module _\n    (k : deep.Kind) where"),
-    (LIB, "⌜ Told n (now (out .entry)) (now (out .exit)) r ⌝", "⌜ Told n\n        (now (out .entry))\n        (now (out .exit)) r ⌝"),
+    (LIB, "⌜ Told n out.old out.new r ⌝", "⌜ Told n\n        out.old\n        out.new r ⌝"),
 ]
 
 

@@ -11,10 +11,10 @@ def wide(columns, start):
 
 
 BREAKS = [
-    (LIB, "// Twice a number.\n", wide(141, "//"), "crates/small/src/lib.rt:10 has 141 columns, more than 140"),
-    (SUMS, "-- twice a number\n", wide(141, "--"), "crates/small/specs/Sums.antt:6 has 141 columns, more than 140"),
-    (ONE, "-- twice is twice\n", wide(201, "--"), "crates/small/proofs/One.antt:11 has 201 columns, more than 200"),
-    (ONE, "  twice-again = refl\n", "  twice-again = refl\n" + wide(250, "--"), "One.antt:18 has 250 columns, more than 200"),
+    (LIB, "// Twice a number.\n", wide(141, "//"), "crates/small/src/lib.rt:14 has 141 columns, more than 140"),
+    (SUMS, "-- twice a number\n", wide(141, "--"), "crates/small/specs/Sums.antt:4 has 141 columns, more than 140"),
+    (ONE, "-- twice is twice\n", wide(201, "--"), "crates/small/proofs/One.antt:10 has 201 columns, more than 200"),
+    (ONE, "  twice_again = refl\n", "  twice_again = refl\n" + wide(250, "--"), "One.antt:17 has 250 columns, more than 200"),
 ]
 SHORT = [(LIB, "// Twice a number.\n", wide(140, "//")), (SUMS, "-- twice a number\n", wide(140, "--")), (ONE, "-- twice is twice\n", wide(200, "--"))]
 

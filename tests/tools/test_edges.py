@@ -17,11 +17,11 @@ main: base left io libc
 """,
     "crates/base/src/lib.rt": "mod words;\n\npub fn one() -> usize {\n    words::one() + base::one()\n}\n",
     "crates/base/src/words.rt": "// left::two is no name here, nor is\npub fn one() -> usize {\n    let told = \"right::two\";\n    1\n}\n",
-    "crates/upper/src/lib.rt": "ghost use Rattle·base.specs.One.{one};\n",
-    "crates/upper/specs/Two.antt": "-- Not of Rattle·left.specs.Two.\nuse Rattle·upper·specs.specs.One.{one}\n",
+    "crates/upper/src/lib.rt": "ghost use Rattle.base.specs.One.{one};\n",
+    "crates/upper/specs/Two.antt": "-- Not of Rattle.left.specs.Two.\nuse Rattle.upper.specs.One.{one}\n",
     "crates/left/src/lib.rt": "mod right;\n\npub fn two() -> usize {\n    base::one() + right::three()\n}\n",
-    "crates/left/proofs/two/Proof.antt": "use Rattle·left·proofs.proofs.Two.{two}\nuse Rattle·upper.proofs.Two.{two}\n",
-    "crates/right/specs/Three.antt": "use Rattle·base.specs.One.{one}\n",
+    "crates/left/proofs/two/Proof.antt": "use Rattle.left.proofs.Two.{two}\nuse Rattle.upper.proofs.Two.{two}\n",
+    "crates/right/specs/Three.antt": "use Rattle.base.specs.One.{one}\n",
     "crates/main/src/main.rt": "use libc::STDOUT_FILENO;\n\nfn main() {\n    io::print(STDOUT_FILENO, left::two() + base::one());\n}\n",
 }
 
@@ -41,7 +41,7 @@ BREAKS = [
     ("crates/right/specs/Three.antt", "base.specs.One.{one}", "left.specs.Two.{two}", "right names left, which stands on no floor below it"),
     ("crates/base/src/lib.rt", "words::one()", "upper::one()", "base names upper, which stands on no floor below it"),
     ("crates/right/src/lib.rt", None, "pub fn three() -> usize {\n    upper::two()\n}\n", "right names upper, which it does not list"),
-    ("crates/upper/proofs/Two.antt", None, "use Rattle·left.specs.Two.{two}\n", "upper names left, which it does not list"),
+    ("crates/upper/proofs/Two.antt", None, "use Rattle.left.specs.Two.{two}\n", "upper names left, which it does not list"),
 ]
 
 

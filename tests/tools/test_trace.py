@@ -6,7 +6,7 @@ from sound import LIB, SOUND, broken, exits, run, with_breaks
 
 README = """# Small
 
-A sentence on `small` and `double` of `crates/small/src/lib.rt`. It has `tell` too; `told-one` is another's, as `twice-is` in `double` is.
+A sentence on `small` and `double` of `crates/small/src/lib.rt`. It has `tell` too; `told_one` is another's, as `twice_is` in `double` is.
 Run `make test`, or `tools/pack --tight < one.txt`.
 All is defined: `number`, `out`, `'outer`, `Colour`, `Red`, `LIMIT`, `inner`, `to`, `length`, `small::double`.
 And `lib::Count`, `Colour::Red`, `small_put`, `TestOne`, `KIT`, `added_one`, `rules`, `Map`.
@@ -35,7 +35,7 @@ double(2);
 ```
 """
 
-LAST = "`small/specs/Sums.antt` `Told`; `small/proofs/One.antt` `told-one`, `..-one`; `small/src/lib.rt`, `small/proofs/One.antt` `twice-is`, `double`"
+LAST = "`small/specs/Sums.antt` `Told`; `small/proofs/One.antt` `told_one`, `..-one`; `small/src/lib.rt`, `small/proofs/One.antt` `twice_is`, `double`"
 
 TREE = dict(SOUND, **{
     "README.md": README,
@@ -172,13 +172,13 @@ WRONG = [
 
 BREAKS = [
     # where a name is defined: in the files named last, in those that follow "in"
-    ("docs/TRACE.md", "`Told`;", "`twice-is`;", "docs/TRACE.md:7: twice-is is defined in none of: crates/small/specs/Sums.antt"),
+    ("docs/TRACE.md", "`Told`;", "`twice_is`;", "docs/TRACE.md:7: twice_is is defined in none of: crates/small/specs/Sums.antt"),
     ("docs/TRACE.md", "`..-one`", "`..-two`", "..-two is defined in none of: crates/small/proofs/One.antt"),
     ("docs/TRACE.md", "`..-one`", "`Told`", "Told is defined in none of: crates/small/proofs/One.antt"),
     ("docs/TRACE.md", "`double`", "`Told`", "Told is defined in none of: crates/small/src/lib.rt, crates/small/proofs/One.antt"),
     ("docs/TRACE.md", "\n`Told`\n", "\n`Tolled`\n", "docs/TRACE.md:3: Tolled is defined nowhere"),
-    ("README.md", "src/lib.rt`. It has", "src/lib.rt`; it has", "told-one is defined in none of: crates/small/src/lib.rt"),
-    ("README.md", "`twice` in", "`told-one` in", "told-one is defined in none of: crates/small/specs/Sums.antt"),
+    ("README.md", "src/lib.rt`. It has", "src/lib.rt`; it has", "told_one is defined in none of: crates/small/src/lib.rt"),
+    ("README.md", "`twice` in", "`told_one` in", "told_one is defined in none of: crates/small/specs/Sums.antt"),
     ("README.md", "`small/specs/Other.antt` and", "`small/proofs/One.antt` and", "Told is defined in none of: crates/small/proofs/One.antt"),
     ("README.md", "and `small/specs/Last.antt`", "and `small/proofs/One.antt`", "Told is defined in none of: crates/small/proofs/One.antt"),
     ("docs/DECISIONS.md", "`double` |", "`double` and `nobody` |", "docs/DECISIONS.md:5: nobody is defined nowhere"),
