@@ -9,11 +9,12 @@ MORE, SHEET, AUDIT = "crates/small/specs/More.antt", "crates/sheet/specs/Sheet.a
 
 TREE = dict(SOUND, **{
     MORE: """-- More.
-use Prim.Native.Nat.{ℕ, _+_}
+use Rattle.std.specs.Prelude.{ℕ, ◌+◌}
 use Rattle.small.specs.Sums.{twice as doubled}
 use Rattle.small.specs.Deep as deep
 use Rattle.small.specs.declared.Count.{Count}
-infixl 6 _⊕_
+pub use Rattle.small.specs.Deep.{deepest as lowest}
+infixl 6 ◌⊕◌
 
 module _ (k : deep.Kind) where
   -- in a section
@@ -24,7 +25,7 @@ module _ (k : deep.Kind) where
   seven = unused
 
 -- a sum
-pub _⊕_ : ℕ → ℕ → ℕ
+pub ◌⊕◌ : ℕ → ℕ → ℕ
 a ⊕ b = a + b
 
 -- a case of a choice
@@ -48,7 +49,7 @@ unused = 5
 module _ (w : deep.Wide) where
   -- its statement alone is believed, not its proof
   pub six_is : (p : Pair)
-    → p .first ≡ pair .second → left ≡ left
+    → p.first ≡ pair.second → left ≡ left
   six_is p = unused
 
 hidden_is : unused ≡ deepest
@@ -60,7 +61,7 @@ hidden_is = refl
 pub fn sheet(out: &mut [u8])
 
     // nothing is demanded
-    ensures { λ _. ⌜ Sheet out.new ⌝ }
+    ensures { Sheet out.new }
 {
 }
 """,
@@ -70,7 +71,7 @@ pub fn sheet(out: &mut [u8])
 
 | Question | Theorem | File | In words |
 |---|---|---|---|
-| twice? | `..-is` | `small/proofs/One.antt` | it is |
+| twice? | `.._is` | `small/proofs/One.antt` | it is |
 
 ## What must be believed
 
@@ -118,16 +119,16 @@ BREAKS = [
     (AUDIT, "6 lines of the 3 contracts", "7 lines of the 3 contracts", "does not say once: 6 lines of the 3 contracts"),
     (AUDIT, "6 lines of the 3 contracts", "6 lines of the 4 contracts", "does not say once: 6 lines of the 3 contracts"),
     (AUDIT, "contracts: `make test`", "contracts, 7 lines of the 3 contracts", "does not say once: 6 lines of the 3 contracts"),
-    (LIB, "out.new r ⌝ }", "out.new r ⌝ }\n    ensures { λ _. ⌜ 0 ≤ n ⌝ }", "does not say once: 7 lines of the 3 contracts"),
+    (LIB, "out.new result }", "out.new result }\n    ensures low { 0 ≤ n }", "does not say once: 7 lines of the 3 contracts"),
     (LIB, "pub fn tell(out: &mut [u8], n: usize) -> usize", "pub fn tell(\n    out: &mut [u8],\n    n: usize,\n) -> usize", "does not say once: 9 lines"),
     ("docs/SETTLED.md", "`sheet::sheet`", "`sheet::sheets`", "no public function sheet::sheets"),
     ("docs/SETTLED.md", "| `sheet::sheet` | by equation |\n", "", "does not say once: 4 lines of the 2 contracts"),
     # the theorems
-    (AUDIT, "`..-is`", "`..-was`", "no theorem ..-was in small/proofs/One.antt"),
-    (AUDIT, "`..-is`", "`..-is`, `told`", "no theorem told in small/proofs/One.antt"),
-    (AUDIT, "`..-is`", "all", "no theorem or no file: twice? | all"),
-    (AUDIT, "`small/proofs/One.antt` | it is", "all | it is", "no theorem or no file: twice? | `..-is` | all"),
-    (AUDIT, "`small/proofs/One.antt` | it is", "`small/proofs/Two.antt` | it is", "no theorem ..-is in small/proofs/Two.antt"),
+    (AUDIT, "`.._is`", "`.._was`", "no theorem .._was in small/proofs/One.antt"),
+    (AUDIT, "`.._is`", "`.._is`, `told`", "no theorem told in small/proofs/One.antt"),
+    (AUDIT, "`.._is`", "all", "no theorem or no file: twice? | all"),
+    (AUDIT, "`small/proofs/One.antt` | it is", "all | it is", "no theorem or no file: twice? | `.._is` | all"),
+    (AUDIT, "`small/proofs/One.antt` | it is", "`small/proofs/Two.antt` | it is", "no theorem .._is in small/proofs/Two.antt"),
     # what is reached: a line more of a definition, of a section, of a struct; a name more
     (SUMS, "twice n = n + n", "twice 0 = 0\ntwice n = n + n", "says 11 lines of small/specs/Sums.antt, there are 12"),
     (SUMS, "twice n = n + n", "twice n =\n    let m = n in\n    (m + n)", "says 11 lines of small/specs/Sums.antt, there are 12"),
@@ -139,6 +140,10 @@ BREAKS = [
     (LIB, "    pub number: usize,\n", "    pub number: usize,\n    pub more: usize,\n", "says 4 lines of small/src/lib.rt, there are 5"),
     (ONE, "(w : deep.Wide)", "(w : ℕ)", "says 4 lines of small/specs/Deep.antt, there are 2"),
     (ONE, "→ left ≡ left", "→ left ≡ deepest", "says 4 lines of small/specs/Deep.antt, there are 6"),
+    (SHEET, "{twice}\npub Sheet : List ℕ", "{twice}\nuse Rattle.small.specs.Deep\npub Sheet : List Deep.deepest",
+     "says 4 lines of small/specs/Deep.antt, there are 6"),
+    (SHEET, "{twice}\npub Sheet : List ℕ", "{twice}\nuse Rattle.small.specs.More.{lowest}\npub Sheet : List lowest",
+     "says 4 lines of small/specs/Deep.antt, there are 6"),
     (SHEET, "\n  length l", "\n  let k = 4 in\n  length l", "says 2 lines of sheet/specs/Sheet.antt, there are 3"),
 ]
 
@@ -151,7 +156,7 @@ BROKEN = [
     (SUMS, "pub kept : after ≡ before", "pub kept :\n      after\n      ≡ before"),
     (SUMS, "packed x n l = ", "packed x\n    (n)\n    (l) = "),
     (MORE, "module _ (k : deep.Kind) where", "module _\n    (k : deep.Kind) where"),
-    (LIB, "⌜ Told n out.old out.new r ⌝", "⌜ Told n\n        out.old\n        out.new r ⌝"),
+    (LIB, "{ Told n out.old out.new result }", "{ Told n\n        out.old\n        out.new result }"),
 ]
 
 
@@ -178,7 +183,7 @@ class Believe(unittest.TestCase):
     def test_names(self):
         status, said = told_of(TREE, "--names")
         self.assertEqual(status, 0)
-        self.assertIn("| `small/specs/More.antt` | 13 | Choice, Pair, _⊕_, pair, six\n", said)
+        self.assertIn("| `small/specs/More.antt` | 13 | Choice, Pair, pair, six, ◌⊕◌\n", said)
         self.assertIn("contracts: 6 lines of 3 functions; the questions alone: 32\n", said)
         self.assertIn("| `small/specs/More.antt` | 13 |\n", told_of(TREE, "--print")[1])
 

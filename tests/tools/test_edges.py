@@ -14,6 +14,7 @@ left: base upper
 right: base
 # floor 2: programs
 main: base left io libc
+door staticlib: left
 """,
     "crates/base/src/lib.rt": "mod words;\n\npub fn one() -> usize {\n    words::one() + base::one()\n}\n",
     "crates/base/src/words.rt": "// left::two is no name here, nor is\npub fn one() -> usize {\n    let told = \"right::two\";\n    1\n}\n",
@@ -23,6 +24,8 @@ main: base left io libc
     "crates/left/proofs/two/Proof.antt": "use Rattle.left.proofs.Two.{two}\nuse Rattle.upper.proofs.Two.{two}\n",
     "crates/right/specs/Three.antt": "use Rattle.base.specs.One.{one}\n",
     "crates/main/src/main.rt": "use libc::STDOUT_FILENO;\n\nfn main() {\n    io::print(STDOUT_FILENO, left::two() + base::one());\n}\n",
+    "crates/door/src/lib.rt": "ghost use Rattle.std.specs.Prelude.{right};\nuse left as it;\nuse std::{fmt, io::{self, right, Write as base}};\n\n"
+    "pub fn two() -> io::Result<usize> {\n    right::two() + base::two() + it::two()\n}\n",
 }
 
 BREAKS = [
@@ -34,6 +37,14 @@ BREAKS = [
     ("crates.txt", "left: base upper", "left: upper base", "left has to list base upper, in this order"),
     ("crates.txt", "main: base left io libc", "main: io libc base left", "main has to list base left io libc, in this order"),
     ("crates.txt", "main: base left io libc", "main: base left libc", "main names io, which it does not list"),
+    ("crates.txt", "door staticlib: left", "door staticlib: left io", "door lists io, which it does not name"),
+    ("crates.txt", "door staticlib: left", "door staticlib: base left", "door lists base, which it does not name"),
+    ("crates.txt", "door staticlib: left", "door staticlib:", "door names left, which it does not list"),
+    ("crates.txt", "door staticlib: left", "door staticlib: left json", "door lists json, which it does not name"),
+    ("crates/door/src/lib.rt", "use std::{fmt, io::{self, right, Write as base}};", "use std::{fmt, io::right, Write as base};", "door names io, which it does not list"),
+    ("crates/door/src/lib.rt", "right, Write", "Write", "door names right, which it does not list"),
+    ("crates/door/src/lib.rt", "Write as base", "Write", "door names base, which it does not list"),
+    ("crates/door/src/lib.rt", "use left as it;", "use left::two as it;\nuse base;", "door names base, which it does not list"),
     ("crates.txt", "# floor 0, in order: laws", "# floor 0: laws", "upper names base, which stands on no floor below it"),
     ("crates.txt", "base:\nupper: base\n", "upper: base\nbase:\n", "upper names base, which stands on no floor below it"),
     ("crates.txt", "# floor 2: programs", "# programs", "main names left, which stands on no floor below it"),
@@ -53,7 +64,7 @@ class Edges(unittest.TestCase):
         self.assertEqual(exits("edges", broken(TREE, *BREAKS[0][:3])), 1)
 
     def test_print(self):
-        for name, old, new, _ in BREAKS[:8]:
+        for name, old, new, _ in BREAKS[:12]:
             with self.subTest(new):
                 self.assertEqual(run("edges", broken(TREE, name, old, new), ["--print"]), (0, TREE["crates.txt"]))
 
