@@ -13,7 +13,7 @@ upper: base
 left: base upper
 right: base
 # floor 2: programs
-main: base left io libc
+main: base left io libc json
 door staticlib: left
 """,
     "crates/base/src/lib.rt": "mod words;\n\npub fn one() -> usize {\n    words::one() + base::one()\n}\n",
@@ -23,20 +23,20 @@ door staticlib: left
     "crates/left/src/lib.rt": "mod right;\n\npub fn two() -> usize {\n    base::one() + right::three()\n}\n",
     "crates/left/proofs/two/Proof.antt": "use Rattle.left.proofs.Two.{two}\nuse Rattle.upper.proofs.Two.{two}\n",
     "crates/right/specs/Three.antt": "use Rattle.base.specs.One.{one}\n",
-    "crates/main/src/main.rt": "use libc::STDOUT_FILENO;\n\nfn main() {\n    io::print(STDOUT_FILENO, left::two() + base::one());\n}\n",
-    "crates/door/src/lib.rt": "ghost use Rattle.std.specs.Prelude.{right};\nuse left as it;\nuse std::{fmt, io::{self, right, Write as base}};\n\n"
-    "pub fn two() -> io::Result<usize> {\n    right::two() + base::two() + it::two()\n}\n",
+    "crates/main/src/main.rt": "use libc::STDOUT_FILENO;\n\nfn main() {\n    io::print(STDOUT_FILENO, json::three(left::two() + base::one()));\n}\n",
+    "crates/door/src/lib.rt": "ghost use Rattle.std.specs.Prelude.{right};\nuse left::two as it;\nuse std::{fmt, io::{self, right, Write as base}};\n\n"
+    "pub fn two() -> io::Result<usize> {\n    right::two() + base::two() + it()\n}\n",
 }
 
 BREAKS = [
     ("crates.txt", "right: base\n", "right: base upper\n", "right lists upper, which it does not name"),
-    ("crates.txt", "main: base left io libc", "main: base left io libc os", "main lists os, which it does not name"),
+    ("crates.txt", "main: base left io libc json", "main: base left io libc json os", "main lists os, which it does not name"),
     ("crates.txt", "left: base upper", "left: upper", "left names base, which it does not list"),
     ("crates.txt", "left: base upper", "left: base", "left names upper, which it does not list"),
     ("crates.txt", "left: base upper", "left: base base upper", "left has to list base upper, in this order"),
     ("crates.txt", "left: base upper", "left: upper base", "left has to list base upper, in this order"),
-    ("crates.txt", "main: base left io libc", "main: io libc base left", "main has to list base left io libc, in this order"),
-    ("crates.txt", "main: base left io libc", "main: base left libc", "main names io, which it does not list"),
+    ("crates.txt", "main: base left io libc json", "main: io libc json base left", "main has to list base left io libc json, in this order"),
+    ("crates.txt", "main: base left io libc json", "main: base left libc json", "main names io, which it does not list"),
     ("crates.txt", "door staticlib: left", "door staticlib: left io", "door lists io, which it does not name"),
     ("crates.txt", "door staticlib: left", "door staticlib: base left", "door lists base, which it does not name"),
     ("crates.txt", "door staticlib: left", "door staticlib:", "door names left, which it does not list"),
@@ -44,7 +44,8 @@ BREAKS = [
     ("crates/door/src/lib.rt", "use std::{fmt, io::{self, right, Write as base}};", "use std::{fmt, io::right, Write as base};", "door names io, which it does not list"),
     ("crates/door/src/lib.rt", "right, Write", "Write", "door names right, which it does not list"),
     ("crates/door/src/lib.rt", "Write as base", "Write", "door names base, which it does not list"),
-    ("crates/door/src/lib.rt", "use left as it;", "use left::two as it;\nuse base;", "door names base, which it does not list"),
+    ("crates/door/src/lib.rt", "use left::two as it;", "use left::two as it;\nuse base;", "door names base, which it does not list"),
+    ("crates/door/src/lib.rt", "right::two()", "json::two()", "door names json, which it does not list"),
     ("crates.txt", "# floor 0, in order: laws", "# floor 0: laws", "upper names base, which stands on no floor below it"),
     ("crates.txt", "base:\nupper: base\n", "upper: base\nbase:\n", "upper names base, which stands on no floor below it"),
     ("crates.txt", "# floor 2: programs", "# programs", "main names left, which stands on no floor below it"),
