@@ -16,7 +16,7 @@ Code: `n + n`, `fn double(n: ..`, `&mut [u8]`.
 
     make test   # all of it: make nothing
     $ tools/pack --tight < examples/maps/one.txt > made/nowhere.map && rt check small | tools/run-program small
-    rt ci --fast
+    rt ci --fast && rt must-fail small && rt lib && rt run < examples/maps/one.map > made/nowhere.sheet && rt try --seconds -- nobody && rt fmt && rt
     no command: tools/nothing
     
     make test
@@ -35,7 +35,7 @@ double(2);
 ```
 """
 
-LAST = "`small/specs/Sums.antt` `Told`; `small/proofs/One.antt` `told_one`, `..-one`; `small/src/lib.rt`, `small/proofs/One.antt` `twice_is`, `double`"
+LAST = "`small/specs/Sums.antt` `Told`; `small/proofs/One.antt` `told_one`, `.._one`; `small/src/lib.rt`, `small/proofs/One.antt` `twice_is`, `double`"
 
 TREE = dict(SOUND, **{
     "README.md": README,
@@ -87,6 +87,8 @@ fn walk<T>(mut from: &[T], to: u8) -> &'static [u8] {
     "examples/README.md": "# Examples\n\nBeside: `maps`, `maps/one.txt`.\n",
     "docs/TRACE.md": "# Trace\n\n`Told`\n\n| ID | Requirement | Where |\n|---|---|---|\n| A | `not looked at` | %s |\n" % LAST,
     "docs/STATEMENTS.md": "`nothing`\n",
+    "docs/PORT.md": "`nothing` of `none/at/all.rt`\n",
+    "PORTING-LEFT.md": "`nothing`\n",
     "docs/changes/first.md": "# First\n\n`nothing` of `small/src/lib.rt`. The file `small/src/old.rt` is gone.\n",
     "docs/BENCH.md": "# Speed\n",
     "docs/DECISIONS.md": "# Decisions\n\n| Question | Decision |\n|---|---|\n| `small/proofs/One.antt` | `double` |\n",
@@ -101,6 +103,7 @@ fn walk<T>(mut from: &[T], to: u8) -> &'static [u8] {
 WRONG = [
     ("nobody", "nobody is defined nowhere"),
     ("..-two", "..-two is defined nowhere"),
+    (".._two", ".._two is defined nowhere"),
     ("Tolled", "Tolled is defined nowhere"),
     # of no definition: comments, strings, locals, calls, tools, tests of tools, what a patch takes away
     ("commented_one", "commented_one is defined nowhere"),
@@ -163,6 +166,12 @@ WRONG = [
     ("make nothing", "no target for make nothing"),
     ("make test nothing", "no target for make nothing"),
     ("rt check small nobody", "no crate nobody"),
+    ("rt ci nobody", "no crate nobody"),
+    ("rt must-fail small nobody", "no crate nobody"),
+    ("rt try nobody -- small", "no crate nobody"),
+    ("rt run < small/none.txt", "no file small/none.txt"),
+    ("rt staticlib small", "no command rt staticlib"),
+    ("rt dev small", "no command rt dev"),
     ("tools/run-program nobody", "no crate nobody"),
     ("tools/nothing --tight", "no file tools/nothing"),
     ("tools/pack --loose", "tools/pack does not know --loose"),
@@ -173,8 +182,9 @@ WRONG = [
 BREAKS = [
     # where a name is defined: in the files named last, in those that follow "in"
     ("docs/TRACE.md", "`Told`;", "`twice_is`;", "docs/TRACE.md:7: twice_is is defined in none of: crates/small/specs/Sums.antt"),
-    ("docs/TRACE.md", "`..-one`", "`..-two`", "..-two is defined in none of: crates/small/proofs/One.antt"),
-    ("docs/TRACE.md", "`..-one`", "`Told`", "Told is defined in none of: crates/small/proofs/One.antt"),
+    ("docs/TRACE.md", "`.._one`", "`.._two`", ".._two is defined in none of: crates/small/proofs/One.antt"),
+    ("docs/TRACE.md", "`.._one`", "`..-one`", "..-one is defined in none of: crates/small/proofs/One.antt"),
+    ("docs/TRACE.md", "`.._one`", "`Told`", "Told is defined in none of: crates/small/proofs/One.antt"),
     ("docs/TRACE.md", "`double`", "`Told`", "Told is defined in none of: crates/small/src/lib.rt, crates/small/proofs/One.antt"),
     ("docs/TRACE.md", "\n`Told`\n", "\n`Tolled`\n", "docs/TRACE.md:3: Tolled is defined nowhere"),
     ("README.md", "src/lib.rt`. It has", "src/lib.rt`; it has", "told_one is defined in none of: crates/small/src/lib.rt"),
@@ -197,6 +207,7 @@ BREAKS = [
     # which documents
     ("docs/NEW.md", None, "# New\n", "docs/NEW.md is on no list of documents"),
     ("crates/small/README.md", None, "# New\n", "crates/small/README.md is on no list of documents"),
+    ("docs/PORT-OTHER.md", None, "# New\n", "docs/PORT-OTHER.md is on no list of documents"),
     ("docs/changes/first.md", "`small/src/lib.rt`", "`small/src/new.rt`", "docs/changes/first.md:3: no file small/src/new.rt"),
 ] + [(path, None, "`nobody`\n", path + ":1: nobody is defined nowhere") for path in (
     "README.md", "docs/AUDIT.md", "docs/BENCH.md", "docs/DECISIONS.md", "docs/DIFFERENCES.md", "docs/EXCEPTIONS.md", "docs/PROVING.md", "docs/SCRATCH.md",
