@@ -41,27 +41,47 @@ BREAKS = [
 ]
 
 # what a prover says of the sound tree with an edit, its exit status, and a part of what `wrong` has to say
-NAMED = "x/proofs/double/Proof.antt:1:1: error: `%s`: the two types differ\nfn small::double: not proved\nlogic=not-proved\n"
+NAMED = "./proofs/double/Answers.antt:1:1: error: `%s`: the two types differ\nfn small::double: not proved\nlogic=not-proved\n"
+BY_HAND = NAMED.replace("Answers", "Proof")
+SEARCHED = "fn small::double: no proof: expected answers in ./proofs/double/Answers.antt; `search` did not prove %s\nlogic=not-proved\n"
 REFUSED = [
+    (NAMED % "returns", 1, "refused at small::double, returns"),
     (NAMED % "returns-2", 1, "refused at small::double, returns-2"),
-    (NAMED % "loop-again", 1, "refused at small::double, loop-again"),
-    ((NAMED % "walk").replace("not proved\n", "not proved; the borrow checker does not cover this function yet\n", 1), 1, "refused at small::double, walk"),
-    ("fn small::double: no proof: expected `double-spec` in x; `search` does not close `returns`\nlogic=not-proved\n", 1, "refused at small::double, returns"),
+    (NAMED % "returns-clause-told", 1, "refused at small::double, returns-clause-told"),
+    (NAMED % "loop-i-init", 1, "refused at small::double, loop-i-init"),
+    (NAMED % "rows-preserved", 1, "refused at small::double, rows-preserved"),
+    (NAMED % "loop-i-preserved-2", 1, "refused at small::double, loop-i-preserved-2"),
+    (NAMED.replace("/double/", "/deep/+double/") % "loop-i-preserved-clause-told", 1, "refused at small::double, loop-i-preserved-clause-told"),
+    (BY_HAND % "loop-again", 1, "refused at small::double, loop-again"),
+    (BY_HAND % "double_spec", 1, "refused at small::double, double_spec"),
+    ((BY_HAND % "walk").replace("not proved\n", "not proved; the borrow checker does not cover this function yet\n", 1), 1, "refused at small::double, walk"),
+    (SEARCHED % "`returns`", 1, "refused at small::double, returns"),
+    (SEARCHED % "`overflow_add-n`, `returns-then-n`", 1, "refused at small::double, overflow_add-n, returns-then-n"),
 ]
 NOT_REFUSED = [
     ("logic=proved\n", 0, "NOT REFUSED"),
     ("error: mismatched types\n", 1, "it did not reach the prover"),
     (NAMED % "returns", 2, "it did not reach the prover"),
     ((NAMED % "returns").replace("double", "tell"), 1, "double was changed, and refused was small::tell"),
-    (NAMED % "add-result", 1, "refused at small::double, add-result"),
+    (NAMED % "overflow_add-result", 1, "refused at small::double, overflow_add-result"),
     (NAMED % "wipe-requires", 1, "refused at small::double, wipe-requires"),
-    (NAMED % "loop-less", 1, "refused at small::double, loop-less"),
+    (NAMED % "loop-i-smaller", 1, "refused at small::double, loop-i-smaller"),
+    (NAMED % "bounds-out-n-in-loop-i", 1, "refused at small::double, bounds-out-n-in-loop-i"),
+    (NAMED % "double_spec", 1, "refused at small::double, double_spec"),
+    (BY_HAND % "add-result", 1, "refused at small::double, add-result"),
+    (BY_HAND % "loop-smaller", 1, "refused at small::double, loop-smaller"),
+    (SEARCHED % "`overflow_add-n`", 1, "refused at small::double, overflow_add-n"),
+    (SEARCHED % "`overflow_add-n`; `returns` is proved", 1, "refused at small::double, overflow_add-n"),
     ((NAMED % "returns").replace("the two types differ", "record `x` has no field `args`"), 1, "refused at small::double, nothing that has a name"),
+    ((NAMED % "returns").replace("the two types differ", "`args` is not a field of record `x`"), 1, "refused at small::double, nothing that has a name"),
+    ((NAMED % "returns").replace("the two types differ", "`told` is not in scope"), 1, "refused at small::double, nothing that has a name"),
+    ((NAMED % "returns").replace("`returns`: the two types differ", "1 declaration that depends on `told`, which was not admitted, was not checked: returns"), 1,
+     "refused at small::double, nothing that has a name"),
 ]
 
 
 # the same of an edit of a definition
-LAW = "/x/small/%s:1:1: error: `told-one`: %s\nlogic=not-proved\n"
+LAW = "./%s:1:1: error: `told-one`: %s\nlogic=not-proved\n"
 LAWS = [
     (LAW % ("proofs/One.antt", "the two types differ"), 1, "refused at proofs/One.antt, told-one"),
     (LAW % ("proofs/double/Proof.antt", "the two types differ"), 1, "refused at proofs/double/Proof.antt, told-one"),
@@ -72,14 +92,16 @@ NO_LAWS = [
     (LAW % ("specs/Sums.antt", "the two types differ"), 1, "no law is refused"),
     (LAW % ("proofs/One.antt", "`twice-is` was not admitted"), 1, "no law is refused"),
     (LAW % ("proofs/One.antt", "record `x` has no field `kept`"), 1, "no law is refused"),
+    (LAW % ("proofs/One.antt", "`kept` is not a field of record `x`"), 1, "no law is refused"),
 ]
 
 
 def tried(plain, said, status, words=("small/thrice",), checked=0):
-    """The exit status and the words of the tool on an edit, with a prover that says this of it, and ends with these statuses on the tree without it: `rt dev`, `rt check`."""
+    """The exit status and the words of the tool on an edit, with a prover that says this of it, and ends with these statuses on the crate without it: in the copy, in the tree."""
     with tempfile.TemporaryDirectory() as root:
-        there = 'grep -q "    n + n + n" crates/small/src/lib.rt || grep -q "twice n = n$" crates/small/specs/Sums.antt'
-        prover = '#!/bin/sh\n[ "$1" = dev ] || exit %d\n%s || exit %d\ncat "%s/said"\nexit %d\n' % (checked, there, plain, root, status)
+        there = 'grep -q "    n + n + n" src/lib.rt || grep -q "twice n = n$" specs/Sums.antt'
+        place = '[ "$1" = check ] && [ "${PWD#%s}" = "$PWD" ] || exit %d' % (os.path.realpath(root), checked)
+        prover = '#!/bin/sh\n%s\n%s || exit %d\ncat "%s/said"\nexit %d\n' % (place, there, plain, root, status)
         write(root, dict(SOUND, said=said, **{"bin/rt": prover}))
         os.chmod(os.path.join(root, "bin", "rt"), 0o755)
         with mock.patch.dict(os.environ, PATH=os.path.join(root, "bin") + os.pathsep + os.environ["PATH"]):
@@ -118,7 +140,7 @@ class Wrong(unittest.TestCase):
                     self.assertTrue(out.endswith(last), out)
 
     def test_not_proved(self):
-        """The crate is not proved without an edit: by `rt check`, or where more than one is tried over what `rt dev` keeps."""
+        """The crate is not proved without an edit: in the tree, or where more than one is tried over what is kept, in the copy."""
         for plain, checked, words in ((0, 1, "the crates are not proved without an edit"), (1, 0, "the crate is not proved without it")):
             with self.subTest(words):
                 ended, out = tried(plain, NAMED % "returns", 1, ["small/thrice", "small/once"], checked)
