@@ -424,7 +424,9 @@ class Tree:
 
     def all(self):
         for path in sorted(glob.glob(os.path.join(self.root, "crates", "*", "*", "**", "*.antt"), recursive=True)):
-            yield self.file(os.path.relpath(path, os.path.join(self.root, "crates")))
+            name = os.path.relpath(path, os.path.join(self.root, "crates"))
+            if name.split(os.sep)[1] != "out":  # what rt makes
+                yield self.file(name)
 
     def found(self, imported, word):
         """The definition of ours that an imported word stands for, in an antt file or declared in a source."""

@@ -36,7 +36,9 @@ class Columns(unittest.TestCase):
                 self.assertEqual(exits("columns", dict(SOUND, **{file: wide(most + 1, "--")})), 1)
 
     def test_other_files(self):
-        self.assertEqual(exits("columns", dict(SOUND, **{"crates/small/LIST.md": wide(300, "#")})), 0)
+        for file in ("crates/small/LIST.md", "crates/small/out/rlib/small.rlib/lang/src/lib.rt"):
+            with self.subTest(file):
+                self.assertEqual(exits("columns", dict(SOUND, **{file: wide(300, "//")})), 0)
 
     def test_nothing_there(self):
         self.assertEqual(exits("columns", {"README.md": "none\n"}), 1)
