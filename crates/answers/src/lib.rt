@@ -1,5 +1,7 @@
 // The answer of each engine on a map of at most 64 indices and 512 links:
 // one function asks the question on buffers of its own and prints the answer's lines, or the line of a refusal.
+#![tactic(auto)]
+
 ghost use Rattle.std.specs.Prelude.{◌≡◌, ℕ, ◌+◌, ◌≤◌, length};
 ghost use Rattle.lines.specs.Text.{Printed};
 ghost use Rattle.table.specs.Links.{present};

@@ -1,0 +1,7 @@
+-- `answers::answer_hops` meets its contract: the promise of the question, and the text of what it left.
+-- Assumes nothing.
+use mathlib.Core.Path.{refl}
+use Rattle.answers.proofs.answer_hops.Goals as goal
+
+pub returns-clause-written : goal.returns-clause-written
+returns-clause-written c = record { text = _; allowed = record { number = _; left = (_, _); promise = c.hops-counted.ensures; says = refl }; printed = c.say_hops.ensures.printed }

@@ -1,0 +1,28 @@
+-- `answers::say_rows` meets its contract: the refusal after a number, the lines after 0; at most 64 rows have room.
+-- Assumes nothing.
+use native.Mathlib.Omega.{arith}
+use Rattle.table.specs.Links.{present}
+use Rattle.text.specs.Text.{distance_text, row_lines}
+use Rattle.text.proofs.Widths.{distance_width}
+use Rattle.answers.proofs.Widths.{square_fits, rows_fit, rows_short}
+use Rattle.answers.proofs.Says.{refused, given}
+use Rattle.answers.proofs.say_rows.Goals as goal
+
+pub returns-then-number-ne0 : goal.returns-then-number-ne0
+returns-then-number-ne0 c =
+    let v = c.args in
+    let g = refused (row_lines distance_text (present v.bound v.marks.now) v.bound v.matrix.now) c.if-number-ne0.true c.print_refused.ensures in record { printed = g.0; upper_bound = g.1 }
+
+pub print_rows-requires : goal.print_rows-requires
+print_rows-requires c =
+    let v = c.args in
+    let has = present v.bound v.marks.now in
+    let few = c.requires.0 in
+    (c.requires.1, omega (arith, square_fits has v.bound few, c.requires.2), omega (arith, rows_fit has v.bound few 21 (omega arith), c.requires.3))
+
+pub returns : goal.returns
+returns c =
+    let v = c.args in
+    let has = present v.bound v.marks.now in
+    let g = given (row_lines distance_text has v.bound v.matrix.now) c.if-number-ne0.false (rows_short has v.bound c.requires.0 distance_text 21 distance_width (omega arith) v.matrix.now)
+    c.print_rows.ensures in record { printed = g.0; upper_bound = g.1 }
