@@ -172,7 +172,8 @@ module _ (f : Feed (Link ℤ) Ints) (e : f.lent.count ≡ 0) where
   page_of_last_records = (λ p. page-laws.promise_arcs (ints_lasts f e) p, λ p. page-laws.promise_arcs (same_back (ints_lasts f e)) p)
 
 module _ (f : Feed (Link RawCost) Floats) (e : f.lent.count ≡ 0) where
-  pub dijkstra_path_of_last_records : {s : ℕ} {k : Cutoff} {b a : search.Buffers} {number : ℕ} → search.Promise (map_after floats f) s k b a number ↔ search.Promise (map_of_lasts floats f) s k b a number
+  pub dijkstra_path_of_last_records : {s : ℕ} {k : Cutoff} {b a : search.Buffers} {number : ℕ}
+      → search.Promise (map_after floats f) s k b a number ↔ search.Promise (map_of_lasts floats f) s k b a number
   dijkstra_path_of_last_records = (λ p. search-laws.promise_arcs (floats_lasts f e) p, λ p. search-laws.promise_arcs (same_back (floats_lasts f e)) p)
 
   pub hops_f64_of_last_records : {b a : hops.Buffers} {number p : ℕ} → hops.Promise (map_after floats f) b a number p ↔ hops.Promise (map_of_lasts floats f) b a number p

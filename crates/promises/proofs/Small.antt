@@ -244,7 +244,8 @@ a_star_few = AStar.buffers_of few few few few_i few_i few few few few_i
 
 -- ---- the statement
 pub small_maps : SmallMaps
-unfolding filled present present_both lent_whole shorter room_ints most_arcs has_lists has_memory Dijkstra.long_enough BellmanFord.long_enough FloydWarshall.enough Johnson.long_enough AStar.long_enough
+unfolding filled present present_both lent_whole shorter room_ints most_arcs has_lists has_memory Dijkstra.long_enough BellmanFord.long_enough
+    FloydWarshall.enough Johnson.long_enough AStar.long_enough
 small_maps = record {
   s1 = λ d marks xs ys cs. ((([], []), empty_long d marks xs ys cs), λ b e number long p. pairs_zero refl [] (none_negative (empty_up d marks xs ys cs)) (empty_matrix d marks xs ys cs b.0) p long);
   s2_dijkstra = ((dijkstra_few, refl), dijkstra_six (loop (negsuc 0)) 0 refl refl loop_bad);

@@ -1,4 +1,6 @@
 // The sheet: from the bytes of a map file to the bytes that the program writes.
+#![tactic(auto)]
+
 ghost use Rattle.std.specs.Prelude.{true, ◌≡◌, ℕ, ◌+◌, ◌≤◌, length};
 ghost use Rattle.mapfile.specs.Load.{state_of, engine_may};
 ghost use Rattle.answers.specs.Output.{Fits, most};
