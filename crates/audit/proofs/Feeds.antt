@@ -88,7 +88,7 @@ dijkstra_reliable =
 pub a_star_reliable : Reliable ints (λ g q b e r. star.Promise g q b e r) (λ r. r.number) (λ g q b. star.enough g q b) (λ g. a_star_used g.bound (most_arcs_of g))
 a_star_reliable =
     reliable ints _ (λ (r : star.Answer). r.number) (λ g q b. star.enough g q b) _ (λ _ _ _ _ _ _ _ p q. demand1.a_star_settled p q) (λ f z _ _ _ _. demand.a_star_of_last_records f z)
-    (λ _ _ same _ _ _ _ _ _ _ l p q. demand.a_star_by_last_records same l p q) (λ _ _ _ _ _ p n. ap (λ (y : star.Result). y.buffers) ((told.a-star-leaves p).0 n))
+    (λ _ _ same _ _ _ _ _ _ _ l p q. demand.a_star_by_last_records same l p q) (λ _ _ _ _ _ p n. ap (λ (y : star.Result). y.buffers) ((told.a_star_leaves p).0 n))
     (λ f z o _ _ _ _ p. demand.a_star_past_limits f z o p)
 
 pub bellman_ford_reliable : Reliable ints (λ g s b e n. bellman.Promise g s b e n) (λ n. n) (λ g s b. bellman.enough g b) (λ g. bellman_used g.bound (most_arcs_of g))
@@ -136,7 +136,7 @@ pub dijkstra_path_reliable : Reliable {I = ℕ × Cutoff} floats (λ g i b e n. 
     (λ g. dijkstra_path_used g.bound (most_arcs_of g))
 dijkstra_path_reliable =
     reliable floats _ (λ n. n) (λ g i b. search.enough g b) _ (λ _ _ _ _ _ _ _ p q. demand1.dijkstra_path_settled p q) (λ f z _ _ _ _. demand.dijkstra_path_of_last_records f z)
-    (λ _ _ same _ _ _ _ _ _ _ l p q. demand.dijkstra_path_by_last_records same l p q) (λ _ _ _ _ _ p. (told.dijkstra-path-leaves p).0) (λ f z o _ _ _ _ p. demand.dijkstra_path_past_limits f z o p)
+    (λ _ _ same _ _ _ _ _ _ _ l p q. demand.dijkstra_path_by_last_records same l p q) (λ _ _ _ _ _ p. (told.dijkstra_path_leaves p).0) (λ f z o _ _ _ _ p. demand.dijkstra_path_past_limits f z o p)
 
 -- the page check is lent nothing to write
 pub page_reliable : (s : ℕ) (l : List ℤ) → ((g : Net ℤ) → One (page.Promise g s l)) × ((a : page.Answer) → GoesByLasts ints (λ g. page.Promise g s l a))

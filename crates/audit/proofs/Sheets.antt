@@ -78,11 +78,11 @@ module _ (g : Net ℤ) where
 pub small_first : (d : Bool) (marks xs ys : List ℕ) (cs : List ℤ) → FloydWarshallRuns (empty d marks xs ys cs) 0 []
 small_first d marks xs ys cs = runs (small_maps.s1 d marks xs ys cs)
 
-pub small-loops :
+pub small_loops :
     DijkstraRuns (loop (negsuc 0)) 0 6 (none_i64 ∷ []) × BellmanFordRuns (loop (negsuc 0)) 0 7 (none_i64 ∷ []) × FloydWarshallRuns (loop (negsuc 0)) 7 (none_i64 ∷ [])
     × JohnsonRuns (loop (negsuc 0)) 7 (none_i64 ∷ [])
     × DijkstraRuns (loop (pos 3)) 0 0 (pos 0 ∷ []) × BellmanFordRuns (loop (pos 3)) 0 0 (pos 0 ∷ []) × FloydWarshallRuns (loop (pos 3)) 0 (pos 0 ∷ []) × JohnsonRuns (loop (pos 3)) 0 (pos 0 ∷ [])
-small-loops =
+small_loops =
     let s = small_maps in (
       runs s.s2_dijkstra,
       runs s.s2_bellman_ford,
@@ -94,10 +94,10 @@ small-loops =
       runs s.s3_johnson,
     )
 
-pub small-others :
+pub small_others :
     DijkstraRuns behind 0 6 (none_i64 ∷ none_i64 ∷ none_i64 ∷ []) × DijkstraRuns behind 2 0 (none_i64 ∷ none_i64 ∷ pos 0 ∷ []) × BellmanFordRuns pair 0 7 (none_i64 ∷ none_i64 ∷ [])
     × BellmanFordRuns apart 0 0 (pos 0 ∷ pos 2 ∷ none_i64 ∷ none_i64 ∷ []) × JohnsonRuns apart 7 (replicate 16 none_i64)
     × AStarRuns detour (AStar.question_of 0 2 (pos 0 ∷ pos 1 ∷ negsuc 99 ∷ [])) (pos 10) (0 ∷ 2 ∷ []) × AStarRuns detour (AStar.question_of 0 2 (pos 0 ∷ pos 1 ∷ pos 0 ∷ [])) (pos 2) (0 ∷ 1 ∷ 2 ∷ [])
     × ((feed (ints_put true 2 (1 ∷ 1 ∷ [])) (ints_now 0 0 (0 ∷ 0 ∷ []) (0 ∷ 0 ∷ []) (pos 0 ∷ pos 0 ∷ [])) (link_of 1 0 (pos 7) ∷ link_of 1 0 (pos 4) ∷ [])).costs ≡ pos 4 ∷ pos 0 ∷ [])
-small-others =
+small_others =
     let s = small_maps in (runs s.s4_from_0, runs s.s4_from_2, runs s.s5, runs s.s6_bellman_ford, runs s.s6_johnson, runs s.s7, runs s.s8, ap (λ (x : Ints). x.costs) s.s9)

@@ -61,11 +61,11 @@ module _ {g : Net ℤ} {s : ℕ} {b e : dijkstra.Buffers} {number : ℕ} (p : di
 
 -- ---- `dijkstra_path_impl`, `dijkstra_path_f64`
 module _ {g : Net FloatCost} {s : ℕ} {k : Cutoff} {b e : search.Buffers} {number : ℕ} (p : search.Promise g s k b e number) where
-  pub dijkstra-path-leaves :
+  pub dijkstra_path_leaves :
       (number ≡ 1 → e ≡ b) × (number ≡ 2 → e ≡ b) × (number ≡ 3 → e ≡ b) × (number ≡ 6 → e ≡ search.blank g b)
       × (number ≡ 0 → Kept g.bound b.memory.dist e.memory.dist × Kept g.bound b.memory.preds e.memory.preds
       × (e ≡ search.left g b e.memory.dist e.memory.preds))
-  dijkstra-path-leaves =
+  dijkstra_path_leaves =
       let f = left (search.table g s k b) e number (dijkstra_path_follows p) in (
         f 1,
         f 2,
@@ -96,10 +96,10 @@ module _ {g : Net ℤ} {q : star.Question} {b e : star.Buffers} {r : star.Answer
   abbrev Lent : ℕ → Type 0
   Lent k = r.number ≡ k → star.result_of r e ≡ star.no_path b
 
-  pub a-star-leaves :
+  pub a_star_leaves :
       Lent 1 × Lent 2 × Lent 3 × Lent 4 × Lent 5 × (r.number ≡ 6 → star.result_of r e ≡ star.no_path (star.left g b []))
       × (r.number ≡ 0 → (l : List ℕ) × (length l ≤ width g) × (r.length ≡ length l) × (e ≡ star.left g b l))
-  a-star-leaves = let f = left (star.table g q b) (star.result_of r e) r.number (a_star_follows p) in (f 1, f 2, f 3, f 4, f 5, f 6, a_star_length p)
+  a_star_leaves = let f = left (star.table g q b) (star.result_of r e) r.number (a_star_follows p) in (f 1, f 2, f 3, f 4, f 5, f 6, a_star_length p)
 
   pub a_star_zero : (r.number ≡ 0) ↔ (star.Fine g q b × ((x : End ℤ) → star.EndsIn g q x → x.number ≡ 6 → ⊥))
   a_star_zero =
