@@ -5,6 +5,7 @@ import sys
 import tempfile
 import time
 import unittest
+from types import SimpleNamespace
 from unittest import mock
 
 import small_try
@@ -12,7 +13,8 @@ from sound import LIB, SOUND as WHOLE, edit, loaded, told, write
 
 # the sources and the edits of the sound tree, and a script that stands for `rt`
 SOUND = {name: text for name, text in WHOLE.items() if name in ("crates.txt", LIB) or name.endswith(".edit")}
-ASKED = '[ "$1 $2" = "try shown" ] && grep -q "^shown: small\\( small_edit_[0-9]\\)* clean io libc$" crates.txt'
+ASKED = '[ "$1" = try ] && [ "$(basename "$PWD")" = shown ] && grep -q "^shown: small\\( small_edit_[0-9]\\)*$" ../../crates.txt'
+GOOD = "echo %s >&2" % small_try.ENDED
 TRY = '#!/bin/sh\n%s && exec "%s" -S -B "%s"\n' % (ASKED, sys.executable, small_try.__file__)
 
 # an edit, what stands in it, what is put for it, and a part of what the tool has to say of it without a run
@@ -57,6 +59,18 @@ OTHER = [
     ("some_two", "5; 9", "5; 1", "the right answer is another: FAIL: expected 'out = 0 5\\n', found 'out = 0\\n'"),
 ]
 
+# what a run of the program does, which has to write what stands in `stdout`, and a part of what the tool has to say of it
+RUNS = [
+    ("cat stdout\n%s" % GOOD.replace("runners=2", "runners=1"), "status 0: run=ended status=0 runners=1 proved=no"),
+    ("cat stdout\n%s" % GOOD.replace("status=0", "status=3"), "status 0: run=ended status=3"),
+    ("cat stdout", "the right answer is another: status 0: "),
+    ("cat stdout\n%s\nexit 5" % GOOD, "status 5: run=ended"),
+    ("cat stdout\necho more\n%s" % GOOD, "expected '', found 'more'"),
+    ("head -n 1 stdout | tr 36 4\n%s" % GOOD, "expected 'result.number = 3', found 'result.number = 4'"),
+    (GOOD, "expected 'result.number = 3', found ''"),
+    ("printf 'the end of the program\\n| none\\nchecked: fault kind=overflow\\n' >&2\nexit 4", "status 4: checked: fault kind=overflow"),
+]
+
 # the text of an answer, the width of its values, and what the program has to print
 VALUES = [
     ("1 -2 0x1f 1_000", "i64", ["1", "-2", "31", "1000"]),
@@ -90,28 +104,28 @@ SIGN_SHOWN = """    let pair: [i64; 2] = [clean::NONE_I64, 3];
     let mut count: usize = 1;
     let mut out: [u16; 40] = [7; 40];
     let result = small::sign(&pair, limit, &some, &mut count, &mut out);
-    io::write_all(STDOUT_FILENO, b"result =");
+    print!(host; "result =")?;
     match result {
         small::Sign::Zero => {
-            io::write_all(STDOUT_FILENO, b" Zero");
+            print!(host; " Zero")?;
         }
         small::Sign::One(x0) => {
-            io::write_all(STDOUT_FILENO, b" One");
-            put_u8(x0);
+            print!(host; " One")?;
+            put_u8(host, x0)?;
         }
         small::Sign::Two { far, near } => {
-            io::write_all(STDOUT_FILENO, b" Two");
-            put_u8(far);
-            put_f64(near);
+            print!(host; " Two")?;
+            put_u8(host, far)?;
+            put_f64(host, near)?;
         }
     }
-    io::write_all(STDOUT_FILENO, b"\\n");
-    io::write_all(STDOUT_FILENO, b"count =");
-    put_usize(count);
-    io::write_all(STDOUT_FILENO, b"\\n");
-    io::write_all(STDOUT_FILENO, b"out =");
-    put_u16s(&out, 2);
-    io::write_all(STDOUT_FILENO, b"\\n");
+    print!(host; "\\n")?;
+    print!(host; "count =")?;
+    put_usize(host, count)?;
+    print!(host; "\\n")?;
+    print!(host; "out =")?;
+    put_u16s(host, &out, 2)?;
+    print!(host; "\\n")?;
 """
 
 
@@ -170,9 +184,9 @@ class Differ(unittest.TestCase):
         with mock.patch("small_try.tried", wraps=small_try.tried) as run:
             self.assertEqual(tried(SOUND)[0], 0)
         self.assertEqual(run.call_count, 1)
-        door = dict(SOUND, **{LIB: SOUND[LIB].replace("pub fn double", '#[no_mangle]\npub extern "C" fn double')})
-        kept, gone = "grep -q no_mangle crates/small/src/lib.rt", "cd crates/small_edit_0/src && grep -q '^pub fn double' lib.rt && ! grep no_mangle lib.rt"
-        self.assertEqual(tried(door, ["small::double"], "#!/bin/sh\n%s && %s\n" % (kept, gone))[0], 0)
+        door = dict(SOUND, **{LIB: SOUND[LIB].replace("pub fn double", '#[unsafe(no_mangle)]\npub extern "C" fn double')})
+        kept, gone = "grep -q no_mangle ../small/src/lib.rt", "cd ../small_edit_0/src && grep -q '^pub fn double' lib.rt && ! grep no_mangle lib.rt"
+        self.assertEqual(tried(door, ["small::double"], "#!/bin/sh\n%s && (%s) && cat stdout && %s\n" % (kept, gone, GOOD))[0], 0)
 
     def test_unfit(self):
         """Inputs and answers that do not fit, without a run."""
@@ -189,15 +203,39 @@ class Differ(unittest.TestCase):
         self.assertIn("differ: crates/small/must-fail/zero.edit: the right answer is another", said)
         self.assertIn("differ: 2 wrong answers, 1 not shown", said)
         self.assertEqual((status, said.count("another")), (1, 1))
-        status, said = tried(SOUND, ["small::count"], "#!/bin/sh\ngrep -q case_1 crates/shown/src/main.rt && exit 3\nexit 0\n")
+        status, said = tried(SOUND, ["small::count"], "#!/bin/sh\ngrep -q case_1 src/main.rt && exit 3\ncat stdout\n%s\n" % GOOD)
         self.assertIn("the answers together are others, and each alone is not: status 3", said)
         self.assertEqual(status, 1)
+
+    def test_runs(self):
+        """A program that ends otherwise than on both of its runs, or writes something else."""
+        for script, words in RUNS:
+            with self.subTest(words):
+                status, said = tried(SOUND, ["small/zero"], "#!/bin/sh\n%s\n" % script)
+                self.assertIn(words, said)
+                self.assertIn("differ: 1 wrong answers, 1 not shown", said)
+                self.assertEqual(status, 1)
+
+    def test_shared_out(self):
+        """The edits of a crate stay together, and are shared out evenly."""
+        edits = [SimpleNamespace(crate=c, name=n) for n, c in enumerate("aabbbc")]
+        for count, groups in ((1, ["bbbaac"]), (2, ["bbb", "aac"]), (3, ["bbb", "aa", "c"]), (9, ["bbb", "aa", "c"])):
+            with self.subTest(count):
+                self.assertEqual(["".join(e.crate for e in group) for group in loaded("differ").shared_out(edits, count)], groups)
+
+    def test_halves(self):
+        """Where the answers of many are others, each half of them is run: the ones that are named are found in few runs."""
+        files = changed("some_two", "right: out = 0", "right: out = 9")
+        with mock.patch("small_try.tried", wraps=small_try.tried) as run, mock.patch.dict(os.environ, RT_JOBS="1"):
+            status, said = tried(files)
+        self.assertEqual((status, said.count("another"), run.call_count), (1, 1, 9))
+        self.assertIn("some_two.edit: the right answer is another", said)
 
     def test_words(self):
         """Edits by their crate, their function and their name; a word that names none, and a tree without any."""
         for word, count in (("small", 8), ("small::double", 2), ("small/zero", 1)):
             with self.subTest(word):
-                self.assertIn("differ: %d wrong answers, 0 not shown" % count, tried(SOUND, [word], "#!/bin/sh\n")[1])
+                self.assertIn("differ: %d wrong answers, 0 not shown" % count, tried(SOUND, [word], "#!/bin/sh\ncat stdout\n%s\n" % GOOD)[1])
         for word in ("small/none", "--list"):
             self.assertEqual(tried(SOUND, ["small", word]), (2, "differ: no edit of %s\n" % word))
         status, said = tried({name: text for name, text in SOUND.items() if not name.endswith(".edit")})

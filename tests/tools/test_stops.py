@@ -5,6 +5,7 @@ import tempfile
 import unittest
 from unittest import mock
 
+from small_try import ENDED
 from sound import SOUND, told, write
 
 STOPS = """# function: small::double
@@ -17,21 +18,23 @@ input: n = 3
 right: result = 6
 wrong: stops = Overflow
 """
-FAIL = "FAIL: the interpreter failed, with status 80\nwhat the run said:\nundefined behavior (`%s`): no matter\n"
+FAIL = "the end of the program's standard output:\n| result =\ninterpreter: fault kind=x in=small::double: undefined behavior (`%s`): no matter\nrun=fault proved=no\n"
 
 # what the run of the edited program says, its exit status, and a part of what `differ` has to say of it
 OTHER = [
-    (FAIL % "Bounds", 1, "the wrong answer is another: FAIL"),
-    ("FAIL: the interpreter ended, but did not write what is expected\n", 1, "the wrong answer is another: FAIL: the interpreter ended"),
+    (FAIL % "Bounds", 4, "the wrong answer is another: status 4: interpreter: fault kind=x"),
+    ("run=differs proved=no\n", 5, "the wrong answer is another: status 5: run=differs"),
     ("", 1, "the wrong answer is another: status 1"),
-    ("", 0, "the wrong answer is another: it gives the right answer"),
+    ("", 0, "the wrong answer is another: status 0"),
+    (ENDED + "\n", 0, "the wrong answer is another: it gives the right answer"),
 ]
 
 
 def tried(said="", status=0, text=STOPS):
     """The exit status and the words of `differ` on an edit, with a run of the edited program that says this and ends so."""
     with tempfile.TemporaryDirectory() as root:
-        runner = '#!/bin/sh\ngrep -q 18446744073709551615 crates/small*/src/lib.rt || exit 0\ncat "%s/said"\nexit %d\n' % (root, status)
+        right = "cat stdout; grep -q 18446744073709551615 ../small*/src/lib.rt || { echo %s >&2; exit 0; }" % ENDED
+        runner = '#!/bin/sh\n%s\ncat "%s/said" >&2\nexit %d\n' % (right, root, status)
         write(root, dict(SOUND, said=said, **{"bin/rt": runner, "tests/wrong/small/stops.edit": text}))
         os.chmod(os.path.join(root, "bin", "rt"), 0o755)
         with mock.patch.dict(os.environ, PATH=os.path.join(root, "bin") + os.pathsep + os.environ["PATH"]):
@@ -43,7 +46,7 @@ class Stops(unittest.TestCase):
 
     def test_stopped(self):
         """The program stops as the edit says."""
-        status, said = tried(FAIL % "Overflow", 1)
+        status, said = tried(FAIL % "Overflow", 4)
         self.assertIn("differ: 1 wrong answers, 0 not shown", said)
         self.assertEqual(status, 0)
 
@@ -64,7 +67,7 @@ class Stops(unittest.TestCase):
             ("wrong: stops", "wrong: result = 9\nwrong: stops", "the two answers are not of the same things"),
         ):
             with self.subTest(words):
-                status, said = tried(FAIL % "Overflow", 1, STOPS.replace(old, new))
+                status, said = tried(FAIL % "Overflow", 4, STOPS.replace(old, new))
                 self.assertIn("stops.edit: " + words, said)
                 self.assertEqual(status, 1)
 
