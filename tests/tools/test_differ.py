@@ -68,6 +68,7 @@ RUNS = [
     ("cat stdout\necho more\n%s" % GOOD, "expected '', found 'more'"),
     ("head -n 1 stdout | tr 36 4\n%s" % GOOD, "expected 'result.number = 3', found 'result.number = 4'"),
     (GOOD, "expected 'result.number = 3', found ''"),
+    ("printf 'result.number = 3'\n%s" % GOOD, "the right answer is another: expected '', found None"),
     ("printf 'the end of the program\\n| none\\nchecked: fault kind=overflow\\n' >&2\nexit 4", "status 4: checked: fault kind=overflow"),
 ]
 
@@ -215,6 +216,18 @@ class Differ(unittest.TestCase):
                 self.assertIn(words, said)
                 self.assertIn("differ: 1 wrong answers, 1 not shown", said)
                 self.assertEqual(status, 1)
+
+    def test_refused(self):
+        """Where a crate does not compile as it is, its edits are not run one by one; where a copy does not, its edit is found as ever."""
+        script = "#!/bin/sh\necho >>%s\necho \"$PWD/crates/%s/src/lib.rt:1:1: error: x\" >&2\nexit 1\n"
+        with tempfile.TemporaryDirectory() as place:
+            for crate, runs, count in (("small", 1, 8), ("small_edit_0", 31, 8), ("other", 31, 8)):
+                with self.subTest(crate), mock.patch.dict(os.environ, RT_JOBS="1"):
+                    status, said = tried(SOUND, ["small"], script % (os.path.join(place, crate), crate))
+                    self.assertIn("differ: 8 wrong answers, %d not shown" % count, said)
+                    self.assertIn(".edit: the right answer is another: status 1: ", said)
+                    with open(os.path.join(place, crate), encoding="utf-8") as f:
+                        self.assertEqual((status, len(f.read())), (1, runs))
 
     def test_shared_out(self):
         """The edits of a crate stay together, and are shared out evenly."""

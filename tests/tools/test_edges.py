@@ -22,6 +22,7 @@ door staticlib: left
     "crates/upper/specs/Two.antt": "-- Not of Rattle.left.specs.Two.\nuse Rattle.upper.specs.One.{one}\n",
     "crates/left/src/lib.rt": "mod right;\n\npub fn two() -> usize {\n    base::one() + right::three()\n}\n",
     "crates/left/proofs/two/Proof.antt": "use Rattle.left.proofs.Two.{two}\nuse Rattle.upper.proofs.Two.{two}\n",
+    "crates/right/out/rlib/right.rlib/lang/src/lib.rt": "pub fn three() -> usize {\n    left::three()\n}\n",
     "crates/right/specs/Three.antt": "use Rattle.base.specs.One.{one}\n",
     "crates/main/src/main.rt": "use libc::STDOUT_FILENO;\n\nfn main() {\n    io::print(STDOUT_FILENO, json::three(left::two() + base::one()));\n}\n",
     "crates/door/src/lib.rt": "ghost use Rattle.std.specs.Prelude.{right};\nuse left::two as it;\nuse std::{fmt, io::{self, right, Write as base}};\n\n"
