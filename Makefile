@@ -1,7 +1,7 @@
 # make run: proves the program `paths` and prints the sheet of an example.
-# make test: the gate, .ci/run: the quick checks, then every crate from nothing (`rt ci`), then the cases of the programs that it built.
+# make test: the gate, .ci/run: the quick checks, then every crate, edit, test and program (`rt ci`), then the cases of the programs that it built.
 # make quick: the documents against the tree, the unit tests of the tools, the wrong answers run (Python 3, rt); make audit: the documents alone, in seconds.
-# make cases: the cases of the programs in target/bin. make test-doors: the C and the Rust interface (cc, cargo).
+# make cases: the cases of the programs as they are built, or built now (tools/native-program). make test-doors: the C and the Rust interface (cc, cargo).
 # make compare: the proved functions against the original and slow plain models (oracle/README.md says what it needs).
 # make bench: speed beside the original and other libraries; writes docs/BENCH.md and docs/bench.svg.
 # make weaker: tries every listed weakening of a tool of tools/ on its unit tests, in some minutes; no part of the gate.
@@ -9,7 +9,6 @@
 .PHONY: run test quick audit test-tools differ weaker cases wrong test-doors test-c test-rust compare bench
 
 run:
-	rt check paths
 	tools/run-program paths < examples/maps/carriers.map
 
 test:
@@ -41,8 +40,8 @@ weaker:
 	tests/tools/weaker
 
 cases:
-	python3 tests/mapfile/run_paths.py target/bin/paths
-	python3 tests/replay/run_replay.py target/bin/replay
+	program=$$(tools/native-program paths) && python3 tests/mapfile/run_paths.py "$$program"
+	program=$$(tools/native-program replay) && python3 tests/replay/run_replay.py "$$program"
 
 test-doors: test-c test-rust
 
@@ -57,8 +56,7 @@ test-rust:
 	cd bindings/rust && cargo test --offline
 
 compare:
-	rt check paths mapcases
-	python3 tests/mapfile/compare_program.py target/bin/mapcases 100000
+	program=$$(tools/native-program mapcases) && python3 tests/mapfile/compare_program.py "$$program" 100000
 	bash oracle/run
 
 bench:

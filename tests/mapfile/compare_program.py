@@ -2,7 +2,7 @@
 
     python3 tests/mapfile/compare_program.py PROGRAM [COUNT [SEED]]
 
-PROGRAM is target/bin/mapcases once it is proved. The last line is `N passed, M failed`; the exit status is 1 if some failed or none ran.
+PROGRAM is what `tools/native-program mapcases` prints. The last line is `N passed, M failed`; the exit status is 1 if some failed or none ran.
 """
 
 import collections

@@ -2,7 +2,7 @@
 
     python3 tests/mapfile/run_paths.py PROGRAM
 
-PROGRAM is target/bin/paths once it is proved. The last line is `N passed, M failed`; the exit status is 1 if some failed or none ran.
+PROGRAM is what `tools/native-program paths` prints. The last line is `N passed, M failed`; the exit status is 1 if some failed or none ran.
 """
 
 import os

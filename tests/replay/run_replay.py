@@ -2,7 +2,7 @@
 
     python3 tests/replay/run_replay.py PROGRAM
 
-PROGRAM is target/bin/replay once it is proved. A line that is no case, or whose answer was changed, has to be named with what is wrong with it,
+PROGRAM is what `tools/native-program replay` prints. A line that is no case, or whose answer was changed, has to be named with what is wrong with it,
 and every count has to be right. The last line is `N passed, M failed`, of runs; the exit status is 1 if some failed or none ran.
 """
 

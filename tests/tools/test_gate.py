@@ -9,10 +9,11 @@ import unittest
 
 ROOT = os.path.dirname(os.path.dirname(os.path.dirname(os.path.abspath(__file__))))
 LAST = "7 passed, 0 failed"
+OK = "rt: ok; handles allowed: none; must-fail edits: 12 refused%s; done in this run: 1 of the 2 proofs"
 
 
-def gate(**fails):
-    """The exit status of the gate where some parts fail, the parts that it ran, and its last line."""
+def gate(said=OK % "", **fails):
+    """The exit status of the gate where `rt ci` says something and some parts fail, the parts that it ran, and its last line."""
     with tempfile.TemporaryDirectory() as root:
         os.makedirs(os.path.join(root, ".ci"))
         os.makedirs(os.path.join(root, "bin"))
@@ -21,7 +22,7 @@ def gate(**fails):
             for part in ("quick", "cases"):
                 f.write("%s:\n\t@echo ran-%s; exit %d\n" % (part, part, fails.get(part, 0)))
         with open(os.path.join(root, "bin", "rt"), "w", encoding="utf-8") as f:
-            f.write('#!/bin/sh\n[ "$*" = ci ] || exit 9\necho ran-rt\necho "%s"\nexit %d\n' % (LAST, fails.get("rt", 0)))
+            f.write('#!/bin/sh\n[ "$*" = ci ] && [ -f Makefile ] || exit 9\necho ran-rt\necho "%s"\necho "%s"\nexit %d\n' % (said, LAST, fails.get("rt", 0)))
         os.chmod(os.path.join(root, "bin", "rt"), 0o755)
         known = {k: v for k, v in os.environ.items() if not k.startswith(("MAKE", "MFLAGS"))}
         known["PATH"] = os.path.join(root, "bin") + os.pathsep + known["PATH"]
@@ -48,6 +49,29 @@ class Gate(unittest.TestCase):
                 self.assertNotEqual(status, 0)
                 self.assertEqual(parts, ran)
 
+    def test_bad_edits(self):
+        """Edits that `rt ci` calls bad fail the gate, though not `rt ci`; none that is bad does not, nor do other words of that line."""
+        for words, good in ((", 1 bad", False), (", 3 of them only by a limit, 2 bad", False), (", 10 bad", False), (", 0 bad", True), (", 3 of them only by a limit", True), (" bad", True)):
+            with self.subTest(words):
+                status, parts, last = gate(OK % words)
+                self.assertEqual((status == 0, "cases" in parts, last == LAST), (good, good, good))
+
+    def test_no_word(self):
+        """Without its line `rt: ok` nothing is said of the edits; that of another line is none."""
+        for said in ("rt: note: 12 refused", "say rt: ok; must-fail edits: 12 refused"):
+            with self.subTest(said):
+                status, parts, _ = gate(said)
+                self.assertNotEqual(status, 0)
+                self.assertEqual(parts, ["quick", "rt"])
+        self.assertEqual(gate("note: 1 edit, 2 bad\n" + OK % ""), (0, ["quick", "rt", "cases"], LAST))
+
+    def test_nothing_before(self):
+        """What runs before `rt ci` copies, deletes and leaves out nothing, and `rt ci` has no names and no flags."""
+        with open(os.path.join(ROOT, ".ci", "run"), encoding="utf-8") as f:
+            before = f.read().partition("\nrt ci | tee")[0]
+        commands_of = [line.split()[0] for line in before.split("\n") if line and not line.startswith("#")]
+        self.assertEqual(commands_of, ["set", "cd", "command", "said=$(mktemp)", "trap", "make"])
+
     def test_make_test_is_the_gate(self):
         self.assertIn("bash .ci/run", commands("test"))
 
@@ -60,7 +84,7 @@ class Gate(unittest.TestCase):
         self.assertIn("tests/units", quick)
 
     def test_every_checking_tool_is_tested(self):
-        others = {"mapfile", "native-archive", "run-program"}
+        others = {"mapfile", "native-archive", "native-program", "respell", "respell.tsv", "run-program"}
         for tool in sorted(os.listdir(os.path.join(ROOT, "tools"))):
             if not tool.endswith(".py") and tool not in others | {"__pycache__"}:
                 with self.subTest(tool):
@@ -68,9 +92,10 @@ class Gate(unittest.TestCase):
 
     def test_every_program_with_cases_is_run(self):
         cases, runners = commands("cases"), glob.glob(os.path.join(ROOT, "tests", "*", "run_*.py"))
-        self.assertEqual(len(runners), cases.count("target/bin/"))
+        self.assertEqual(len(runners), cases.count("tools/native-program "))
         for path in runners:
-            self.assertIn("%s target/bin/%s\n" % (os.path.relpath(path, ROOT), os.path.basename(path)[4:-3]), cases)
+            told = os.path.basename(path)[4:-3], os.path.relpath(path, ROOT)
+            self.assertIn('program=$(tools/native-program %s) && python3 %s "$program"\n' % told, cases)
 
 
 if __name__ == "__main__":
