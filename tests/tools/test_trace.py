@@ -16,7 +16,7 @@ Code: `n + n`, `fn double(n: ..`, `&mut [u8]`.
 
     make test   # all of it: make nothing
     $ tools/pack --tight < examples/maps/one.txt > made/nowhere.map && rt check small | tools/run-program small
-    rt ci --fast && rt must-fail small && rt lib && rt run < examples/maps/one.map > made/nowhere.sheet && rt try --seconds -- nobody && rt fmt && rt
+    cd crates/small && rt ci --fast && rt must-fail small && rt lib && rt run < examples/maps/one.map > made/nowhere.sheet && rt try --seconds -- nobody && rt fmt && rt
     no command: tools/nothing
     
     make test
@@ -170,6 +170,8 @@ WRONG = [
     ("rt must-fail small nobody", "no crate nobody"),
     ("rt try nobody -- small", "no crate nobody"),
     ("rt run < small/none.txt", "no file small/none.txt"),
+    ("cd crates/nobody && rt check", "no file crates/nobody"),
+    ("cd crates/small && rt check nobody", "no crate nobody"),
     ("rt staticlib small", "no command rt staticlib"),
     ("rt dev small", "no command rt dev"),
     ("tools/run-program nobody", "no crate nobody"),
