@@ -121,8 +121,8 @@ size_t dimetumble_dijkstra(
  * Whatever the heuristic is, the search follows the pending bag: an index whose distance falls after it was taken is taken
  * again. With a consistent heuristic (at no index more than the cost of an arc plus the heuristic at its head) that is
  * known not to happen, though it is not proved here; with another one the takes can double with each index: 31 indices
- * and 435 links took about 20 s, here and in graphina. Who takes heuristics from others should check them first, or limit
- * the time around the call.
+ * and 435 links took about 20 s, here (built by an older Rattle kit) and in graphina. Who takes heuristics from others
+ * should check them first, or limit the time around the call.
  * Gives 0, 1, 2, 3, 4, 5, or 6 when an arc below zero is looked at. After a refusal *cost is none and *length 0.
  * guess, path: bound entries. Scratch: offsets, heads, weights; dist, preds, peaks, words, keys of bound entries. */
 size_t dimetumble_a_star(

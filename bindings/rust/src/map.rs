@@ -284,8 +284,9 @@ impl Map {
     ///
     /// Whatever the heuristic is, the search follows the pending bag: an index whose distance falls after it was taken is taken again. With a
     /// consistent heuristic (at no index more than the cost of an arc plus the heuristic at its head) that is known not to happen, though it
-    /// is not proved here; with another one the takes can double with each index: 31 indices and 435 links took about 20 s, here and in
-    /// graphina. Who takes heuristics from others should check them first, or limit the time around the call.
+    /// is not proved here; with another one the takes can double with each index: 31 indices and 435 links took about 20 s, here
+    /// (built by an older Rattle kit) and in graphina. Who takes heuristics from others should check them first, or limit the time around
+    /// the call.
     ///
     /// [`Refusal::NoSource`], [`Refusal::NoTarget`], [`Refusal::BadHeuristic`], or [`Refusal::BadCost`] when an arc below zero is looked at. The
     /// heuristic is asked once for each present index.
