@@ -192,14 +192,14 @@ module _ (g : Net ℤ) (q : Question) {b : Buffers} (w : Fine g q b) {x : End �
   chain_few d e c = hops_few (nodes_of g) (λ v y p. present_in g v (walk_has g (λ u z k a. (arc_has g w.inside u z k a).1) (got q ends v y p).walk w.source)) d e c
 
   -- the lists after the search
-  module _ (M : Memory ℤ) (long-preds : m ≤ length M.preds) (shows : Shows none_i64 x (firsts m M)) where
+  module _ (M : Memory ℤ) (long_preds : m ≤ length M.preds) (shows : Shows none_i64 x (firsts m M)) where
     -- the target's distance, read
     dist_is : get_or M.dist q.target none_i64 ≡ shown none_i64 (x.dist q.target)
     dist_is = sym (get_or-take m M.dist q.target none_i64 target_in) ∙ shows.dist q.target
 
     -- m predecessors
     long : length (take m M.preds) ≡ m
-    long = length-take-le m M.preds long-preds
+    long = length-take-le m M.preds long_preds
 
     -- each arc leaves one of them
     tails : (u v : ℕ) (c : ℤ) → ArcOf g u v c → u < length (take m M.preds)

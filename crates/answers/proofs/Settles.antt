@@ -8,14 +8,14 @@ use Rattle.lines.specs.Text.{placed}
 use lib.IntN.{ℤ}
 use Rattle.table.specs.Lent.{FloatCost}
 use Rattle.net.specs.Net.{Net}
-use Rattle.dijkstra.proofs.Settles as dijkstra-laws
-use Rattle.bellman_ford.proofs.Settles as bellman-laws
+use Rattle.dijkstra.proofs.Settles as dijkstra_laws
+use Rattle.bellman_ford.proofs.Settles as bellman_laws
 use Rattle.a_star.specs.Promise as star
-use Rattle.a_star.proofs.Settles as star-laws
-use Rattle.floyd_warshall.proofs.Settles as floyd-laws
-use Rattle.johnson.proofs.Settles as johnson-laws
-use Rattle.hops.proofs.Settles as hops-laws
-use Rattle.dijkstra_path.proofs.Settles as path-laws
+use Rattle.a_star.proofs.Settles as star_laws
+use Rattle.floyd_warshall.proofs.Settles as floyd_laws
+use Rattle.johnson.proofs.Settles as johnson_laws
+use Rattle.hops.proofs.Settles as hops_laws
+use Rattle.dijkstra_path.proofs.Settles as path_laws
 use Rattle.answers.specs.Answers.{Written, Shown, Dijkstra, BellmanFord, AStar, FloydWarshall, Johnson, Hops, DijkstraPath}
 
 -- what settles the number and what is left settles the text
@@ -26,25 +26,25 @@ shown_one one x y = let p = one x.number y.number x.left y.left x.promise y.prom
 -- each engine
 module _ {t t' : List ℕ} where
   pub dijkstra_one : {g : Net ℤ} {s : ℕ} → Dijkstra g s t → Dijkstra g s t' → t ≡ t'
-  dijkstra_one = shown_one (λ n n' x y p q. dijkstra-laws.promise_one p q)
+  dijkstra_one = shown_one (λ n n' x y p q. dijkstra_laws.promise_one p q)
 
   pub bellman_ford_one : {g : Net ℤ} {s : ℕ} → BellmanFord g s t → BellmanFord g s t' → t ≡ t'
-  bellman_ford_one = shown_one (λ n n' x y p q. bellman-laws.promise_one p q)
+  bellman_ford_one = shown_one (λ n n' x y p q. bellman_laws.promise_one p q)
 
   pub a_star_one : {g : Net ℤ} {s e : ℕ} → AStar g s e t → AStar g s e t' → t ≡ t'
-  a_star_one = shown_one (λ n n' x y p q. let o = star-laws.promise_one p q in (ap (λ (r : star.Answer). r.number) o.0, λ i. ((o.0 i).cost, (o.0 i).length, o.1 i)))
+  a_star_one = shown_one (λ n n' x y p q. let o = star_laws.promise_one p q in (ap (λ (r : star.Answer). r.number) o.0, λ i. ((o.0 i).cost, (o.0 i).length, o.1 i)))
 
   pub floyd_warshall_one : {g : Net ℤ} → FloydWarshall g t → FloydWarshall g t' → t ≡ t'
-  floyd_warshall_one = shown_one (λ n n' x y p q. let o = floyd-laws.promise_one p q in (o.0, λ i. (o.1 i, o.2 i)))
+  floyd_warshall_one = shown_one (λ n n' x y p q. let o = floyd_laws.promise_one p q in (o.0, λ i. (o.1 i, o.2 i)))
 
   pub johnson_one : {g : Net ℤ} → Johnson g t → Johnson g t' → t ≡ t'
-  johnson_one = shown_one (λ n n' x y p q. let o = johnson-laws.promise_one p q in (o.0, λ i. (o.1 i, o.2 i)))
+  johnson_one = shown_one (λ n n' x y p q. let o = johnson_laws.promise_one p q in (o.0, λ i. (o.1 i, o.2 i)))
 
   pub hops_one : {C : Type 0} {g : Net C} → Hops g t → Hops g t' → t ≡ t'
-  hops_one = shown_one (λ n n' x y p q. let o = hops-laws.promise_one p q in (o.0, λ i. (o.1 i, o.2 i)))
+  hops_one = shown_one (λ n n' x y p q. let o = hops_laws.promise_one p q in (o.0, λ i. (o.1 i, o.2 i)))
 
   pub dijkstra_path_one : {g : Net FloatCost} {s : ℕ} → DijkstraPath g s t → DijkstraPath g s t' → t ≡ t'
-  dijkstra_path_one = shown_one (λ n n' x y p q. path-laws.promise_one p q)
+  dijkstra_path_one = shown_one (λ n n' x y p q. path_laws.promise_one p q)
 
 -- so what is printed at a place is settled: the bytes and where they end
 pub written_one : {P : List ℕ → Type 0} {out after after' : List ℕ} {at stop stop' : ℕ} → ((t t' : List ℕ) → P t → P t' → t ≡ t') → Written P out at after stop → Written P out at after' stop'

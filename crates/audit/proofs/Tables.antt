@@ -32,7 +32,7 @@ use Rattle.matrix.specs.Matrix as pairs
 use Rattle.dijkstra.specs.Promise as dijkstra
 use Rattle.a_star.specs.Promise as star
 use Rattle.bellman_ford.specs.Promise as bellman
-use Rattle.bellman_ford.proofs.Settles as bellman-laws
+use Rattle.bellman_ford.proofs.Settles as bellman_laws
 use Rattle.floyd_warshall.specs.Promise as floyd
 use Rattle.johnson.specs.Promise as johnson
 use Rattle.hops.specs.Promise as hops
@@ -84,7 +84,7 @@ module _ {g : Net ℤ} {s : ℕ} {b e : bellman.Buffers} {number : ℕ} (p : bel
   pub bellman_ford_leaves : (number ≡ 1 → e ≡ b) × (number ≡ 2 → e ≡ b) × (number ≡ 7 → e ≡ bellman.blank g b) × (number ≡ 0 → Kept g.bound b.dist e.dist × (e.scratch ≡ bellman.clear g b))
   bellman_ford_leaves =
       let f = left (bellman.table g s b) e number (bellman_ford_follows p) in
-      (f 1, f 2, f 7, λ z. ((bellman-laws.promise_kept p).0, ⊎_elim (λ q. ap (λ (x : bellman.Buffers). x.scratch) q) (λ x. x.1) (f 0 z)))
+      (f 1, f 2, f 7, λ z. ((bellman_laws.promise_kept p).0, ⊎_elim (λ q. ap (λ (x : bellman.Buffers). x.scratch) q) (λ x. x.1) (f 0 z)))
 
   pub bellman_ford_zero : (number ≡ 0) ↔ ((bellman.enough g b ≡ true) × (inside_net g ≡ true) × (has g s ≡ true → NegativeFrom (ArcOf g) s → ⊥))
   bellman_ford_zero =

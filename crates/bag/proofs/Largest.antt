@@ -115,10 +115,10 @@ peak_out l v w i (suc n) o =
 
 -- inside, where the entry grows
 pub peak_grown : (l : List ℕ) (v w i n : ℕ) → v < length l → i ≤ v → v < i + n → get_or l v 0 ≤ w → peak (set l v w) i n ≡ max (peak l i n) w
-peak_grown l v w i n in-l a b g = omega (arith, most, peak_below l i n (peak (set l v w) i n) each, subst (λ (x : ℕ). x ≤ peak (set l v w) i n) here (peak_above (set l v w) i n v a b))
+peak_grown l v w i n in_l a b g = omega (arith, most, peak_below l i n (peak (set l v w) i n) each, subst (λ (x : ℕ). x ≤ peak (set l v w) i n) here (peak_above (set l v w) i n v a b))
   where
     here : get_or (set l v w) v 0 ≡ w
-    here = get_or-set_same l v w 0 in-l
+    here = get_or-set_same l v w 0 in_l
 
     most : peak (set l v w) i n ≤ max (peak l i n) w
     most = peak_below (set l v w) i n (max (peak l i n) w) (λ k p q. go k p q (ℕ_discrete k v))
@@ -199,10 +199,10 @@ level_moved peaks words at size v q w L B = record { holds = λ j p n. L.holds j
 -- the right value settles it
 pub level_settled : (peaks words : List ℕ) (at : ℕ → ℕ) (size q y : ℕ) → Unsettled peaks words at size q → ((j : ℕ) → at j ≡ at q → j ≡ q) → at q < length peaks → y ≡ peak words (q * size) size
     → Level (set peaks (at q) y) words at size
-level_settled peaks words at size q y U one in-peaks e = record { holds = λ j p. go j p (ℕ_discrete j q) }
+level_settled peaks words at size q y U one in_peaks e = record { holds = λ j p. go j p (ℕ_discrete j q) }
   where
     go : (j : ℕ) → j * size < length words → Dec (j ≡ q) → get_or (set peaks (at q) y) (at j) 0 ≡ peak words (j * size) size
-    go j p (yes d) = subst (λ (x : ℕ). get_or (set peaks (at q) y) (at x) 0 ≡ peak words (x * size) size) (sym d) (get_or-set_same peaks (at q) y 0 in-peaks ∙ e)
+    go j p (yes d) = subst (λ (x : ℕ). get_or (set peaks (at q) y) (at x) 0 ≡ peak words (x * size) size) (sym d) (get_or-set_same peaks (at q) y 0 in_peaks ∙ e)
     go j p (no d) = get_or-set_other peaks (at q) (at j) y 0 (λ z. d (one j z)) ∙ U.holds j p d
 
 -- a store elsewhere leaves it as it is
@@ -213,10 +213,10 @@ unsettled_beside peaks words at size q c y U away = record { holds = λ j p n. g
 -- and so does one that stores what stands there
 pub level_beside : (peaks words : List ℕ) (at : ℕ → ℕ) (size c y : ℕ) → Level peaks words at size → c < length peaks → ((j : ℕ) → j * size < length words → at j ≡ c → y ≡ peak words (j * size) size)
     → Level (set peaks c y) words at size
-level_beside peaks words at size c y L in-peaks right = record { holds = λ j p. go j p (ℕ_discrete (at j) c) }
+level_beside peaks words at size c y L in_peaks right = record { holds = λ j p. go j p (ℕ_discrete (at j) c) }
   where
     go : (j : ℕ) → j * size < length words → Dec (at j ≡ c) → get_or (set peaks c y) (at j) 0 ≡ peak words (j * size) size
-    go j p (yes d) = subst (λ (x : ℕ). get_or (set peaks c y) x 0 ≡ peak words (j * size) size) (sym d) (get_or-set_same peaks c y 0 in-peaks ∙ right j p d)
+    go j p (yes d) = subst (λ (x : ℕ). get_or (set peaks c y) x 0 ≡ peak words (j * size) size) (sym d) (get_or-set_same peaks c y 0 in_peaks ∙ right j p d)
     go j p (no d) = get_or-set_other peaks c (at j) y 0 d ∙ L.holds j p
 
 -- and one that is no entry of it
@@ -363,7 +363,7 @@ lift_lift peaks c i w p = go (ℕ_discrete i c)
 block_grown : (peaks words : List ℕ) (at : ℕ → ℕ) (size v q w : ℕ) → Level peaks words at size → Block size v q → v < length words → get_or words v 0 ≤ w
     → max (get_or peaks (at q) 0) w ≡ peak (set words v w) (q * size) size
 block_grown peaks words at size v q w L B in_words_lem grown =
-    let in-q : q * size < length words = omega (arith, B.from, in_words_lem) in ap (λ (x : ℕ). max x w) (L.holds q in-q) ∙ sym (peak_grown words v w (q * size) size in_words_lem B.from B.to grown)
+    let in_q : q * size < length words = omega (arith, B.from, in_words_lem) in ap (λ (x : ℕ). max x w) (L.holds q in_q) ∙ sym (peak_grown words v w (q * size) size in_words_lem B.from B.to grown)
 
 -- after a raise
 pub peaks_raised : (peaks words : List ℕ) (v w m : ℕ) (peaks₁ peaks₂ peaks₃ : List ℕ) → Peaks peaks words → v < length words → get_or words v 0 ≤ w → m ≡ length words
@@ -376,11 +376,11 @@ peaks_raised peaks words v w m peaks₁ peaks₂ peaks₃ S in_words_lem grown l
     let h₁ = set peaks (v / 8) x in
     let y = max (get_or h₁ high 0) w in
     let h₂ = set h₁ high y in
-    let in-low : v / 8 < length peaks = omega (arith, S.same, in_words_lem) in
+    let in_low : v / 8 < length peaks = omega (arith, S.same, in_words_lem) in
     let in_high : high < length h₁ = omega (arith, length-set peaks (v / 8) x, S.same, in_words_lem) in
     let low_right = block_grown peaks words front 8 v (v / 8) w S.low (block_8 v) in_words_lem grown in
-    let high_right = lift_lift peaks (v / 8) high w in-low ∙ block_grown peaks words (middle (length words)) 64 v (v / 64) w S.high (block_64 v) in_words_lem grown in
-    let top_right = lift_lift h₁ high top w in_high ∙ lift_lift peaks (v / 8) top w in-low ∙ block_grown peaks words (last (length words)) 512 v (v / 512) w S.top (block_512 v) in_words_lem grown in
+    let high_right = lift_lift peaks (v / 8) high w in_low ∙ block_grown peaks words (middle (length words)) 64 v (v / 64) w S.high (block_64 v) in_words_lem grown in
+    let top_right = lift_lift h₁ high top w in_high ∙ lift_lift peaks (v / 8) top w in_low ∙ block_grown peaks words (last (length words)) 512 v (v / 512) w S.top (block_512 v) in_words_lem grown in
     rw (e₃, e₂, e₁, long) (peaks_settled peaks words v w S in_words_lem x low_right y high_right (max (get_or h₂ top 0) w) top_right)
 
 -- after a clear

@@ -84,13 +84,13 @@ module _ {g : Net FloatCost} {s : ℕ} {b : Buffers} (ok : Passed g s b) where
           (same_cutoff64 (At (limit_of k)) k (λ x a. past_limit k x) s (RowArc m nb) v.ran.searched.end v.ran.searched.ends))
 
       -- what the wiping leaves
-      module _ {o h w q i y : List ℕ} (rows_are : lists_of o h w ≡ wiped m a 0 nb) (q-is : q ≡ filled m 0 M.peaks) (i-is : i ≡ filled m 0 M.words) (y-is : y ≡ filled m 0 M.keys) where
+      module _ {o h w q i y : List ℕ} (rows_are : lists_of o h w ≡ wiped m a 0 nb) (q-is : q ≡ filled m 0 M.peaks) (i-is : i ≡ filled m 0 M.words) (y_is : y ≡ filled m 0 M.keys) where
         all_wiped : (x p : List ℕ) → buffers_of x p o h w q i y ≡ left g b x p
         all_wiped x p =
             let rows = rows_are ∙ ap (λ (j : ℕ). wiped m j 0 nb) is ∙ wiped_rows 0 (open_kept g ok.inside r) in
             let eq = q-is ∙ kept_same 0 v.ran.kept.peaks in
             let ei = i-is ∙ kept_same 0 v.ran.kept.words in
-            let ey = y-is ∙ kept_same 0 v.ran.kept.keys in
+            let ey = y_is ∙ kept_same 0 v.ran.kept.keys in
             λ j. record { rows = rows j; memory = memory_of x p (eq j) (ei j) (ey j) }
 
         -- done

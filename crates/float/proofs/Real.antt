@@ -14,7 +14,7 @@ use lib.Pow.{pow_pos}
 use lib.Ieee.{Float, nan, inf, fin, Format, low, emax, up, down, lt, fits, is_nan}
 use lib.Ieee.Fits.{down_pos}
 use lib.Ieee.Bits.{is_true}
-use Rattle.float.proofs.Dist.{Dist, rank, overflow, lt_rank, rank_val, rank_under, scaled_test, ltb_yes, ltb_no, no_nan as no-nan-of}
+use Rattle.float.proofs.Dist.{Dist, rank, overflow, lt_rank, rank_val, rank_under, scaled_test, ltb_yes, ltb_no, no_nan as no_nan_of}
 
 -- an f64 value that is no NaN
 pub record Real (f : Format) (x : Float) : Type 0 where
@@ -109,7 +109,7 @@ is_nan_lem (inf s) e = absurd (true≢false (sym e))
 is_nan_lem (fin s m d) e = absurd (true≢false (sym e))
 
 pub real_of_dist : (f : Format) (x : Float) → Dist f x → Real f x
-real_of_dist f x p = record { no_nan = no-nan-of x p.is_clear; held = p.is_held }
+real_of_dist f x p = record { no_nan = no_nan_of x p.is_clear; held = p.is_held }
 
 -- ---- cutoffs: x is cut where c < x. What is above a cut value is cut, whatever c, a NaN too; and a cutoff that is not above another cuts all that the other cuts
 lt_z_on : (a b c : ℤ) → lt_z a b ≡ true → lt_z c b ≡ false → lt_z a c ≡ true

@@ -20,7 +20,7 @@ use Rattle.clean.specs.None.{none_i64}
 use Rattle.clean.proofs.Filled.{filled_same}
 use Rattle.table.specs.Links.{links}
 use Rattle.walks.specs.Walk.{Least, Negative, Entry, Total}
-use Rattle.walks.proofs.Over.{entry_of as entry-within}
+use Rattle.walks.proofs.Over.{entry_of as entry_within}
 use Rattle.net.specs.Net.{Net, net_of, ArcOf, has, nodes_of, width}
 use Rattle.net.specs.Ranks.{Ranks}
 use Rattle.net.proofs.Nodes.{node_marked}
@@ -82,7 +82,7 @@ module _ (m n : ℕ) (d : Bool) (marks xs ys : List ℕ) (cs : List ℤ) (ranks 
       -- a least total lies in its range
       in_range_lem : (i j : ℕ) → i < width g → (x : ℤ) → Total (ArcOf g) (get_or (nodes_of g) i 0) (get_or (nodes_of g) j 0) x → Entry (ArcOf g) (get_or (nodes_of g) i 0) (get_or (nodes_of g) j 0) x
       in_range_lem i j h x =
-          entry-within (total_within g (get_or (nodes_of g) i 0) (get_or (nodes_of g) j 0) x S.inside (node_marked (has g) m i h).1 (few m n d marks xs ys cs ranks S R) (arc_fits d n xs ys cs F)
+          entry_within (total_within g (get_or (nodes_of g) i 0) (get_or (nodes_of g) j 0) x S.inside (node_marked (has g) m i h).1 (few m n d marks xs ys cs ranks S R) (arc_fits d n xs ys cs F)
           (λ y a t r o. closed_up (never (rowed m n d marks xs ys cs ranks S R F) (matrix_filled m n d marks xs ys cs ranks S R F q.first q.started) all_done.up) o))
 
       entry_shown : (i j : ℕ) → i < width g → j < width g → (b : Bool) → lt_z (cell (width g) l' i j) (pos (2 ^ 49)) ≡ b

@@ -116,41 +116,41 @@ module _ (d : Bool) (u v : ℕ) (c : ℤ) (h : List ℤ) where
   pub link_long : length (looked d u v c h) ≡ length h
   link_long = by_link (λ (l : List ℤ). length l ≡ length h) (λ e. look_long u v c h) (λ e. look_long v u c (lowered u v c h) ∙ look_long u v c h)
 
-  module _ (belowU : u < length h) (belowV : v < length h) where
+  module _ (below_u : u < length h) (below_v : v < length h) where
     below_next : u < length (lowered u v c h)
     below_next = omega (arith, look_long u v c h)
 
     pub link_falls : (x : ℕ) → label (looked d u v c h) x ≤ℤ label h x
     link_falls x =
-        by_link (λ (l : List ℤ). label l x ≤ℤ label h x) (λ e. look_falls u v c h belowV x)
+        by_link (λ (l : List ℤ). label l x ≤ℤ label h x) (λ e. look_falls u v c h below_v x)
         (λ e.
-        let p : label (lowered u v c h) x ≤ℤ label h x = look_falls u v c h belowV x in
+        let p : label (lowered u v c h) x ≤ℤ label h x = look_falls u v c h below_v x in
         let q : label (lowered v u c (lowered u v c h)) x ≤ℤ label (lowered u v c h) x = look_falls v u c (lowered u v c h) below_next x in
         omega (arith, zed))
 
     pub link_reaches : Bounded d u v c h (looked d u v c h)
     link_reaches =
-        by_link (λ (l : List ℤ). Bounded d u v c h l) (λ e. record { there = look_reaches u v c h belowV; return = λ f. absurd (clash e f) })
+        by_link (λ (l : List ℤ). Bounded d u v c h l) (λ e. record { there = look_reaches u v c h below_v; return = λ f. absurd (clash e f) })
         (λ e. record { there = first; return = λ f. second })
       where
         first : label (lowered v u c (lowered u v c h)) v ≤ℤ label h u ⊕ c
         first =
-            let p : label (lowered u v c h) v ≤ℤ label h u ⊕ c = look_reaches u v c h belowV in
+            let p : label (lowered u v c h) v ≤ℤ label h u ⊕ c = look_reaches u v c h below_v in
             let q : label (lowered v u c (lowered u v c h)) v ≤ℤ label (lowered u v c h) v = look_falls v u c (lowered u v c h) below_next v in
             omega (arith, zed)
 
         second : label (lowered v u c (lowered u v c h)) u ≤ℤ label h v ⊕ c
         second =
             let p : label (lowered v u c (lowered u v c h)) u ≤ℤ label (lowered u v c h) v ⊕ c = look_reaches v u c (lowered u v c h) below_next in
-            let q : label (lowered u v c h) v ≤ℤ label h v = look_falls u v c h belowV v in
+            let q : label (lowered u v c h) v ≤ℤ label h v = look_falls u v c h below_v v in
             omega (arith, zed, sum (label (lowered u v c h) v) c, sum (label h v) c)
 
     pub link_shallow : {m k : ℕ} → Cost32 c → Shallow m k h → Shallow m (k + 2) (looked d u v c h)
     link_shallow {m} {k} small s =
-        let one = look_shallow u v c h belowV small s in
+        let one = look_shallow u v c h below_v small s in
         by_link (λ (l : List ℤ). Shallow m (k + 2) l)
         (λ e. record { long = one.long; high = one.high; low = λ x. omega (arith, one.low x) })
         (λ e. let two = look_shallow v u c (lowered u v c h) below_next small one in record { long = two.long; high = two.high; low = λ x. omega (arith, two.low x) })
 
     pub link_came : {Arc : ℕ → ℕ → ℤ → Type 0} → Arc u v c → (d ≡ false → Arc v u c) → Came Arc h → Came Arc (looked d u v c h)
-    link_came {Arc} a b w = by_link (Came Arc) (λ e. look_came u v c h belowV a w) (λ e. look_came v u c (lowered u v c h) below_next (b e) (look_came u v c h belowV a w))
+    link_came {Arc} a b w = by_link (Came Arc) (λ e. look_came u v c h below_v a w) (λ e. look_came v u c (lowered u v c h) below_next (b e) (look_came u v c h below_v a w))

@@ -36,7 +36,7 @@ module _ {K C K' C' : Type 0} (S : Setting K C) (S' : Setting K' C') {ok' : K' �
     (same_lt : (j : ℕ) (a : K) (x : K') (b : K) (y : K') → j ≤ top → R j a x → R j b y → S.lt a b ≡ S'.lt x y)
     (same_key : (j : ℕ) (a : K) (x : K') (v : ℕ) → j ≤ top → R j a x → R j (S.key a v) (S'.key x v))
     (same_plus : (j : ℕ) (a : K) (x : K') (c : C) (b : C') → suc j ≤ top → R j a x → W c b → R (suc j) (S.plus a c) (S'.plus x b))
-    (same-cut : (j : ℕ) (a : K) (x : K') → j ≤ top → R j a x → S.cut a ≡ S'.cut x)
+    (same_cut : (j : ℕ) (a : K) (x : K') → j ≤ top → R j a x → S.cut a ≡ S'.cut x)
     (same_bad : (c : C) (b : C') → W c b → S.bad c ≡ S'.bad b)
     (same_target : S.target ≡ S'.target)
     (Arc : ℕ → ℕ → C → Type 0) (arcs' : ℕ → List (ℕ × C'))
@@ -89,18 +89,18 @@ module _ {K C K' C' : Type 0} (S : Setting K C) (S' : Setting K' C') {ok' : K' �
     new_alike h (stays f e) (stores b a k g m e') =
         let x = from u v b a in
         let w = sums x.0 b x.2 in
-        absurd (clash g (sym (same_better o w h) ∙ f x.0 x.1 (same-cut (suc j) _ _ o w ∙ k)))
+        absurd (clash g (sym (same_better o w h) ∙ f x.0 x.1 (same_cut (suc j) _ _ o w ∙ k)))
     new_alike h (stores c a k g m e) (stays f' e') =
         let x = to u v c a in
         let w = sums c x.0 x.2 in
-        absurd (clash g (same_better o w h ∙ f' x.0 x.1 (sym (same-cut (suc j) _ _ o w) ∙ k)))
+        absurd (clash g (same_better o w h ∙ f' x.0 x.1 (sym (same_cut (suc j) _ _ o w) ∙ k)))
     new_alike {new} {new'} h (stores c a k g m e) (stores b a' k' g' m' e') =
         let x = to u v c a in
         let w = sums c x.0 x.2 in
         let y = from u v b a' in
         let z = sums y.0 b y.2 in
-        let low = m' x.0 x.1 (sym (same-cut (suc j) _ _ o w) ∙ k) in
-        let high = sym (same_lt (suc j) _ _ _ _ o z w) ∙ m y.0 y.1 (same-cut (suc j) _ _ o z ∙ k') in
+        let low = m' x.0 x.1 (sym (same_cut (suc j) _ _ o w) ∙ k) in
+        let high = sym (same_lt (suc j) _ _ _ _ o z w) ∙ m y.0 y.1 (same_cut (suc j) _ _ o z ∙ k') in
         let q : S'.plus d' x.0 ≡ S'.plus d' b =
         L'.order.same (S'.plus d' x.0) (S'.plus d' b) (L'.plus_ok d' x.0 d_ok (good' x.0 x.1)) (L'.plus_ok d' b d_ok (good' b a')) low high in
         subst (λ (i : Cell K). Alike R (suc j) i new') (sym e)

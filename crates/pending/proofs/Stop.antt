@@ -72,13 +72,13 @@ module _ {K C : Type 0} (S : Setting K C) {ok : K → Type 0} (L : Laws (aim S n
       go : (b : Bool) → eqb w.u g ≡ b → (f : End K) × Ends (aim S (some g)) Arc t (suc n) f × Agrees g e f → (f : End K) × Ends (aim S (some g)) Arc s n f × Agrees g e f
       go false q rec = (rec.0, more (next_aim S Arc w q) rec.1, rec.2)
       go true q rec =
-          let u-is : w.u ≡ g = eqb-true w.u g q in (
+          let u_is : w.u ≡ g = eqb-true w.u g q in (
             done_at s (suc n),
             found w.u w.d w.p (takes_aim S Arc w.taken) q,
             record {
               number = refl;
-              dist = ap (λ (x : ℕ). dist_of (s x)) (sym u-is) ∙ ap dist_of w.taken.held ∙ sym kept.0 ∙ ap e.dist u-is;
-              pred = ap (λ (x : ℕ). pred_of (s x)) (sym u-is) ∙ ap pred_of w.taken.held ∙ sym kept.1 ∙ ap e.pred u-is;
+              dist = ap (λ (x : ℕ). dist_of (s x)) (sym u_is) ∙ ap dist_of w.taken.held ∙ sym kept.0 ∙ ap e.dist u_is;
+              pred = ap (λ (x : ℕ). pred_of (s x)) (sym u_is) ∙ ap pred_of w.taken.held ∙ sym kept.1 ∙ ap e.pred u_is;
               takes = takes_up (aim S none) Arc r;
             },
           )

@@ -24,24 +24,24 @@ use Rattle.net.specs.Net.{Net, width}
 use Rattle.matrix.specs.Matrix.{buffers_of}
 use Rattle.table.specs.Promise.{ints_table, floats_table}
 use Rattle.table.proofs.Numbers as table
-use Rattle.matrix.proofs.Settles as matrix-laws
+use Rattle.matrix.proofs.Settles as matrix_laws
 use Rattle.dijkstra.specs.Promise as dijkstra
-use Rattle.dijkstra.proofs.Settles as dijkstra-laws
+use Rattle.dijkstra.proofs.Settles as dijkstra_laws
 use Rattle.a_star.specs.Promise as star
-use Rattle.a_star.proofs.Settles as star-laws
-use Rattle.a_star.proofs.Gives as star-gives
+use Rattle.a_star.proofs.Settles as star_laws
+use Rattle.a_star.proofs.Gives as star_gives
 use Rattle.bellman_ford.specs.Promise as bellman
-use Rattle.bellman_ford.proofs.Settles as bellman-laws
+use Rattle.bellman_ford.proofs.Settles as bellman_laws
 use Rattle.floyd_warshall.specs.Promise as floyd
-use Rattle.floyd_warshall.proofs.Settles as floyd-laws
+use Rattle.floyd_warshall.proofs.Settles as floyd_laws
 use Rattle.johnson.specs.Promise as johnson
-use Rattle.johnson.proofs.Settles as johnson-laws
+use Rattle.johnson.proofs.Settles as johnson_laws
 use Rattle.hops.specs.Promise as hops
-use Rattle.hops.proofs.Settles as hops-laws
+use Rattle.hops.proofs.Settles as hops_laws
 use Rattle.dijkstra_path.specs.Promise as search
-use Rattle.dijkstra_path.proofs.Settles as search-laws
+use Rattle.dijkstra_path.proofs.Settles as search_laws
 use Rattle.page.specs.Promise as page
-use Rattle.page.proofs.Settles as page-laws
+use Rattle.page.proofs.Settles as page_laws
 
 -- ---- `put` and `put_f64`
 module _ (d : Bool) (m : ℕ) (marks : List ℕ) (r : Link ℤ) (n : ℕ) (xs ys : List ℕ) (cs : List ℤ) where
@@ -87,10 +87,10 @@ module _ {g : Net ℤ} {s : ℕ} {b e : dijkstra.Buffers} {number : ℕ} (p : di
   dijkstra_numbers = one_of (dijkstra.table g s b) e number p.follows
 
   pub dijkstra_exactly : (k : ℕ) → (number ≡ k) ↔ At k (dijkstra.table g s b)
-  dijkstra_exactly = dijkstra-laws.promise_exactly p
+  dijkstra_exactly = dijkstra_laws.promise_exactly p
 
   pub dijkstra_settled : {e' : dijkstra.Buffers} {number' : ℕ} → dijkstra.Promise g s b e' number' → (number ≡ number') × (e ≡ e')
-  dijkstra_settled q = dijkstra-laws.promise_one p q
+  dijkstra_settled q = dijkstra_laws.promise_one p q
 
 -- ---- `dijkstra_path_impl`, `dijkstra_path_f64`: the promise is the table
 module _ {g : Net FloatCost} {s : ℕ} {k : Cutoff} {b e : search.Buffers} {number : ℕ} (p : search.Promise g s k b e number) where
@@ -101,10 +101,10 @@ module _ {g : Net FloatCost} {s : ℕ} {k : Cutoff} {b e : search.Buffers} {numb
   dijkstra_path_numbers = one_of (search.table g s k b) e number p.follows
 
   pub dijkstra_path_exactly : (n : ℕ) → (number ≡ n) ↔ At n (search.table g s k b)
-  dijkstra_path_exactly = search-laws.promise_exactly p
+  dijkstra_path_exactly = search_laws.promise_exactly p
 
   pub dijkstra_path_settled : {e' : search.Buffers} {number' : ℕ} → search.Promise g s k b e' number' → (number ≡ number') × (e ≡ e')
-  dijkstra_path_settled q = search-laws.promise_one p q
+  dijkstra_path_settled q = search_laws.promise_one p q
 
 -- ---- `bellman_ford`
 module _ {g : Net ℤ} {s : ℕ} {b e : bellman.Buffers} {number : ℕ} (p : bellman.Promise g s b e number) where
@@ -115,10 +115,10 @@ module _ {g : Net ℤ} {s : ℕ} {b e : bellman.Buffers} {number : ℕ} (p : bel
   bellman_ford_numbers = one_of (bellman.table g s b) e number p.follows
 
   pub bellman_ford_exactly : (k : ℕ) → (number ≡ k) ↔ At k (bellman.table g s b)
-  bellman_ford_exactly = bellman-laws.promise_exactly p
+  bellman_ford_exactly = bellman_laws.promise_exactly p
 
   pub bellman_ford_settled : {e' : bellman.Buffers} {number' : ℕ} → bellman.Promise g s b e' number' → (number ≡ number') × (e ≡ e')
-  bellman_ford_settled q = bellman-laws.promise_one p q
+  bellman_ford_settled q = bellman_laws.promise_one p q
 
 -- ---- `a_star`: the promise is the table
 module _ {g : Net ℤ} {q : star.Question} {b e : star.Buffers} {r : star.Answer} (p : star.Promise g q b e r) where
@@ -129,17 +129,17 @@ module _ {g : Net ℤ} {q : star.Question} {b e : star.Buffers} {r : star.Answer
   a_star_numbers = one_of (star.table g q b) (star.result_of r e) r.number p.follows
 
   pub a_star_exactly : (k : ℕ) → (r.number ≡ k) ↔ At k (star.table g q b)
-  a_star_exactly = star-laws.promise_exactly p
+  a_star_exactly = star_laws.promise_exactly p
 
   pub a_star_settled : {e' : star.Buffers} {r' : star.Answer} → star.Promise g q b e' r' → (r ≡ r') × (e ≡ e')
-  a_star_settled p' = star-laws.promise_one p p'
+  a_star_settled p' = star_laws.promise_one p p'
 
   -- after 0 the path has at most p indices, and its length is given
   pub a_star_length : r.number ≡ 0 → (l : List ℕ) × (length l ≤ width g) × (r.length ≡ length l) × (e ≡ star.left g b l)
-  a_star_length z = ⊎_elim (λ x. absurd (omega (arith, z, x.0))) (λ x. found x.0 x.1.0) (star-laws.cases p)
+  a_star_length z = ⊎_elim (λ x. absurd (omega (arith, z, x.0))) (λ x. found x.0 x.1.0) (star_laws.cases p)
     where
       found : star.Fine g q b → (o : star.Outcome g q b (star.result_of r e)) → (l : List ℕ) × (length l ≤ width g) × (r.length ≡ length l) × (e ≡ star.left g b l)
-      found w o = let k = star-gives.path_few w o in (o.path, k.0, k.1, ap (λ (y : star.Result). y.buffers) o.leaves)
+      found w o = let k = star_gives.path_few w o in (o.path, k.0, k.1, ap (λ (y : star.Result). y.buffers) o.leaves)
 
 -- ---- `floyd_warshall`: its promise is the table
 module _ {g : Net ℤ} {m m' : List ℤ} {r r' : List ℕ} {number : ℕ} (p : floyd.Promise g m r m' r' number) where
@@ -150,10 +150,10 @@ module _ {g : Net ℤ} {m m' : List ℤ} {r r' : List ℕ} {number : ℕ} (p : f
   floyd_warshall_numbers = one_of (floyd.table g m r) (buffers_of m' r') number p.follows
 
   pub floyd_warshall_exactly : (k : ℕ) → (number ≡ k) ↔ At k (floyd.table g m r)
-  floyd_warshall_exactly = matrix-laws.promise_exactly p
+  floyd_warshall_exactly = matrix_laws.promise_exactly p
 
   pub floyd_warshall_settled : {m'' : List ℤ} {r'' : List ℕ} {number' : ℕ} → floyd.Promise g m r m'' r'' number' → (number ≡ number') × (m' ≡ m'') × (r' ≡ r'')
-  floyd_warshall_settled q = floyd-laws.promise_one p q
+  floyd_warshall_settled q = floyd_laws.promise_one p q
 
 -- ---- `johnson`: its promise is the table
 module _ {g : Net ℤ} {m m' : List ℤ} {s s' : johnson.Scratch} {number : ℕ} (p : johnson.Promise g m s m' s' number) where
@@ -164,10 +164,10 @@ module _ {g : Net ℤ} {m m' : List ℤ} {s s' : johnson.Scratch} {number : ℕ}
   johnson_numbers = one_of (johnson.table g m s) (buffers_of m' s') number p.follows
 
   pub johnson_exactly : (k : ℕ) → (number ≡ k) ↔ At k (johnson.table g m s)
-  johnson_exactly = matrix-laws.promise_exactly p
+  johnson_exactly = matrix_laws.promise_exactly p
 
   pub johnson_settled : {m'' : List ℤ} {s'' : johnson.Scratch} {number' : ℕ} → johnson.Promise g m s m'' s'' number' → (number ≡ number') × (m' ≡ m'') × (s' ≡ s'')
-  johnson_settled q = johnson-laws.promise_one p q
+  johnson_settled q = johnson_laws.promise_one p q
 
 -- ---- `hops` and `hops_f64`: C is the kind of cost; their promise is the table
 module _ {C : Type 0} {g : Net C} {b e : hops.Buffers} {number p : ℕ} (a : hops.Promise g b e number p) where
@@ -178,10 +178,10 @@ module _ {C : Type 0} {g : Net C} {b e : hops.Buffers} {number p : ℕ} (a : hop
   hops_numbers = one_of (hops.table g b) (hops.result_of p e) number a.follows
 
   pub hops_exactly : (k : ℕ) → (number ≡ k) ↔ At k (hops.table g b)
-  hops_exactly = hops-laws.promise_exactly a
+  hops_exactly = hops_laws.promise_exactly a
 
   pub hops_settled : {e' : hops.Buffers} {number' p' : ℕ} → hops.Promise g b e' number' p' → (number ≡ number') × (p ≡ p') × (e ≡ e')
-  hops_settled q = hops-laws.promise_one a q
+  hops_settled q = hops_laws.promise_one a q
 
 -- ---- the page check
 module _ {g : Net ℤ} {s : ℕ} {l : List ℤ} {a : page.Answer} (p : page.Promise g s l a) where
@@ -192,7 +192,7 @@ module _ {g : Net ℤ} {s : ℕ} {l : List ℤ} {a : page.Answer} (p : page.Prom
   page_numbers = one_of (page.table g s l) a.yes a.number p.follows
 
   pub page_exactly : (k : ℕ) → (a.number ≡ k) ↔ At k (page.table g s l)
-  page_exactly = page-laws.promise_exactly p
+  page_exactly = page_laws.promise_exactly p
 
   pub page_settled : {a' : page.Answer} → page.Promise g s l a' → a ≡ a'
-  page_settled q = page-laws.promise_one p q
+  page_settled q = page_laws.promise_one p q

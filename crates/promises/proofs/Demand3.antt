@@ -39,23 +39,23 @@ use Rattle.table.proofs.Slices.{follows_ints, follows_floats}
 use Rattle.table.proofs.Demand3.{limits, next_one, ints_hold_lasts, floats_hold_lasts, ints_same_maps, floats_same_maps}
 use Rattle.net.specs.Net.{Net, net_of, net_of64, whole_net, most_arcs_of, width, SameNet}
 use Rattle.net.proofs.Same.{same_back}
-use Rattle.matrix.proofs.Settles as matrix-laws
+use Rattle.matrix.proofs.Settles as matrix_laws
 use Rattle.dijkstra.specs.Promise as dijkstra
-use Rattle.dijkstra.proofs.Settles as dijkstra-laws
+use Rattle.dijkstra.proofs.Settles as dijkstra_laws
 use Rattle.a_star.specs.Promise as star
-use Rattle.a_star.proofs.Settles as star-laws
+use Rattle.a_star.proofs.Settles as star_laws
 use Rattle.bellman_ford.specs.Promise as bellman
-use Rattle.bellman_ford.proofs.Settles as bellman-laws
+use Rattle.bellman_ford.proofs.Settles as bellman_laws
 use Rattle.floyd_warshall.specs.Promise as floyd
-use Rattle.floyd_warshall.proofs.Settles as floyd-laws
+use Rattle.floyd_warshall.proofs.Settles as floyd_laws
 use Rattle.johnson.specs.Promise as johnson
-use Rattle.johnson.proofs.Settles as johnson-laws
+use Rattle.johnson.proofs.Settles as johnson_laws
 use Rattle.hops.specs.Promise as hops
-use Rattle.hops.proofs.Settles as hops-laws
+use Rattle.hops.proofs.Settles as hops_laws
 use Rattle.dijkstra_path.specs.Promise as search
-use Rattle.dijkstra_path.proofs.Settles as search-laws
+use Rattle.dijkstra_path.proofs.Settles as search_laws
 use Rattle.page.specs.Promise as page
-use Rattle.page.proofs.Settles as page-laws
+use Rattle.page.proofs.Settles as page_laws
 use Rattle.promises.specs.Maps.{map_after, map_of_lasts}
 use Rattle.promises.specs.Used.{LeaveSame, dijkstra_used, dijkstra_path_used, bellman_used, a_star_used, pairs_used, johnson_used, hops_used}
 use Rattle.promises.proofs.Memory.{dijkstra_memory, a_star_memory, bellman_ford_memory, floyd_warshall_memory, johnson_memory, hops_memory, dijkstra_path_memory}
@@ -106,78 +106,78 @@ module _ {f g : Feed (Link ℤ) Ints} (same : SameFeeds ints f g) where
   pub dijkstra_by_last_records : {s : ℕ} {b b' e e' : dijkstra.Buffers} {number number' : ℕ} → dijkstra.enough (map_after ints f) b ≡ dijkstra.enough (map_after ints f) b'
       → dijkstra.Promise (map_after ints f) s b e number → dijkstra.Promise (map_after ints g) s b' e' number'
       → (number ≡ number') × LeaveSame (dijkstra_used f.bound (most_arcs_of (map_after ints f))) number b b' e e'
-  dijkstra_by_last_records {s} {b} {b'} long p q = dijkstra_memory (map_after ints f) s b b' long p (dijkstra-laws.promise_arcs (same_back (ints_same same)) q)
+  dijkstra_by_last_records {s} {b} {b'} long p q = dijkstra_memory (map_after ints f) s b b' long p (dijkstra_laws.promise_arcs (same_back (ints_same same)) q)
 
   pub a_star_by_last_records : {q : star.Question} {b b' e e' : star.Buffers} {r r' : star.Answer} → star.enough (map_after ints f) q b ≡ star.enough (map_after ints f) q b'
       → star.Promise (map_after ints f) q b e r → star.Promise (map_after ints g) q b' e' r' → (r ≡ r') × LeaveSame (a_star_used f.bound (most_arcs_of (map_after ints f))) r.number b b' e e'
-  a_star_by_last_records {q} {b} {b'} long p p' = a_star_memory (map_after ints f) q b b' long p (star-laws.promise_arcs (same_back (ints_same same)) q b' p')
+  a_star_by_last_records {q} {b} {b'} long p p' = a_star_memory (map_after ints f) q b b' long p (star_laws.promise_arcs (same_back (ints_same same)) q b' p')
 
   pub bellman_ford_by_last_records : {s : ℕ} {b b' e e' : bellman.Buffers} {number number' : ℕ} → bellman.enough (map_after ints f) b ≡ bellman.enough (map_after ints f) b'
       → bellman.Promise (map_after ints f) s b e number → bellman.Promise (map_after ints g) s b' e' number'
       → (number ≡ number') × LeaveSame (bellman_used f.bound (most_arcs_of (map_after ints f))) number b b' e e'
-  bellman_ford_by_last_records {s} {b} {b'} long p q = bellman_ford_memory (map_after ints f) s b b' long p (bellman-laws.promise_arcs (same_back (ints_same same)) q)
+  bellman_ford_by_last_records {s} {b} {b'} long p q = bellman_ford_memory (map_after ints f) s b b' long p (bellman_laws.promise_arcs (same_back (ints_same same)) q)
 
   pub floyd_warshall_by_last_records : {m m' m₁ m₂ : List ℤ} {r r' r₁ r₂ : List ℕ} {number number' : ℕ} → floyd.enough (map_after ints f) m r ≡ floyd.enough (map_after ints f) m' r'
       → floyd.Promise (map_after ints f) m r m₁ r₁ number → floyd.Promise (map_after ints g) m' r' m₂ r₂ number'
       → (number ≡ number') × LeaveSame (pairs_used (width (map_after ints f)) (take f.bound)) number (m, r) (m', r') (m₁, r₁) (m₂, r₂)
-  floyd_warshall_by_last_records {m} {m'} {r = r} {r' = r'} long p q = floyd_warshall_memory (map_after ints f) m m' r r' long p (floyd-laws.promise_arcs (same_back (ints_same same)) q)
+  floyd_warshall_by_last_records {m} {m'} {r = r} {r' = r'} long p q = floyd_warshall_memory (map_after ints f) m m' r r' long p (floyd_laws.promise_arcs (same_back (ints_same same)) q)
 
   pub johnson_by_last_records : {m m' m₁ m₂ : List ℤ} {s s' s₁ s₂ : johnson.Scratch} {number number' : ℕ} → johnson.enough (map_after ints f) m s ≡ johnson.enough (map_after ints f) m' s'
       → johnson.Promise (map_after ints f) m s m₁ s₁ number → johnson.Promise (map_after ints g) m' s' m₂ s₂ number'
       → (number ≡ number') × LeaveSame (pairs_used (width (map_after ints f)) (johnson_used f.bound (most_arcs_of (map_after ints f)))) number (m, s) (m', s') (m₁, s₁) (m₂, s₂)
-  johnson_by_last_records {m} {m'} {s = s} {s' = s'} long p q = johnson_memory (map_after ints f) m m' s s' long p (johnson-laws.promise_arcs (same_back (ints_same same)) q)
+  johnson_by_last_records {m} {m'} {s = s} {s' = s'} long p q = johnson_memory (map_after ints f) m m' s s' long p (johnson_laws.promise_arcs (same_back (ints_same same)) q)
 
   pub hops_by_last_records : {b b' e e' : hops.Buffers} {number number' p p' : ℕ} → hops.enough (map_after ints f) b ≡ hops.enough (map_after ints f) b'
       → hops.Promise (map_after ints f) b e number p → hops.Promise (map_after ints g) b' e' number' p'
       → (number ≡ number') × (p ≡ p') × LeaveSame (hops_used f.bound (most_arcs_of (map_after ints f)) (width (map_after ints f))) number b b' e e'
-  hops_by_last_records {b} {b'} long p q = hops_memory (map_after ints f) b b' long p (hops-laws.promise_arcs (same_back (ints_same same)) q)
+  hops_by_last_records {b} {b'} long p q = hops_memory (map_after ints f) b b' long p (hops_laws.promise_arcs (same_back (ints_same same)) q)
 
   -- the page check is lent nothing to write
   pub page_by_last_records : {s : ℕ} {l : List ℤ} {a a' : page.Answer} → page.Promise (map_after ints f) s l a → page.Promise (map_after ints g) s l a' → a ≡ a'
-  page_by_last_records p q = page-laws.same_answers (ints_same same) p q
+  page_by_last_records p q = page_laws.same_answers (ints_same same) p q
 
 module _ {f g : Feed (Link RawCost) Floats} (same : SameFeeds floats f g) where
   -- one promise for `dijkstra_path_impl` and `dijkstra_path_f64`, with any cutoff
   pub dijkstra_path_by_last_records : {s : ℕ} {k : Cutoff} {b b' e e' : search.Buffers} {number number' : ℕ} → search.enough (map_after floats f) b ≡ search.enough (map_after floats f) b'
       → search.Promise (map_after floats f) s k b e number → search.Promise (map_after floats g) s k b' e' number'
       → (number ≡ number') × LeaveSame (dijkstra_path_used f.bound (most_arcs_of (map_after floats f))) number b b' e e'
-  dijkstra_path_by_last_records {s} {k} {b} {b'} long p q = dijkstra_path_memory (map_after floats f) s k b b' long p (search-laws.promise_arcs (same_back (floats_same same)) q)
+  dijkstra_path_by_last_records {s} {k} {b} {b'} long p q = dijkstra_path_memory (map_after floats f) s k b b' long p (search_laws.promise_arcs (same_back (floats_same same)) q)
 
   pub hops_f64_by_last_records : {b b' e e' : hops.Buffers} {number number' p p' : ℕ} → hops.enough (map_after floats f) b ≡ hops.enough (map_after floats f) b'
       → hops.Promise (map_after floats f) b e number p → hops.Promise (map_after floats g) b' e' number' p'
       → (number ≡ number') × (p ≡ p') × LeaveSame (hops_used f.bound (most_arcs_of (map_after floats f)) (width (map_after floats f))) number b b' e e'
-  hops_f64_by_last_records {b} {b'} long p q = hops_memory (map_after floats f) b b' long p (hops-laws.promise_arcs (same_back (floats_same same)) q)
+  hops_f64_by_last_records {b} {b'} long p q = hops_memory (map_after floats f) b b' long p (hops_laws.promise_arcs (same_back (floats_same same)) q)
 
 -- ---- and that answer is the one of the map that holds exactly the last accepted records
 module _ (f : Feed (Link ℤ) Ints) (e : f.lent.count ≡ 0) where
   pub dijkstra_of_last_records : {s : ℕ} {b a : dijkstra.Buffers} {number : ℕ} → dijkstra.Promise (map_after ints f) s b a number ↔ dijkstra.Promise (map_of_lasts ints f) s b a number
-  dijkstra_of_last_records = (λ p. dijkstra-laws.promise_arcs (ints_lasts f e) p, λ p. dijkstra-laws.promise_arcs (same_back (ints_lasts f e)) p)
+  dijkstra_of_last_records = (λ p. dijkstra_laws.promise_arcs (ints_lasts f e) p, λ p. dijkstra_laws.promise_arcs (same_back (ints_lasts f e)) p)
 
   pub a_star_of_last_records : {q : star.Question} {b a : star.Buffers} {r : star.Answer} → star.Promise (map_after ints f) q b a r ↔ star.Promise (map_of_lasts ints f) q b a r
-  a_star_of_last_records {q} {b} = (λ p. star-laws.promise_arcs (ints_lasts f e) q b p, λ p. star-laws.promise_arcs (same_back (ints_lasts f e)) q b p)
+  a_star_of_last_records {q} {b} = (λ p. star_laws.promise_arcs (ints_lasts f e) q b p, λ p. star_laws.promise_arcs (same_back (ints_lasts f e)) q b p)
 
   pub bellman_ford_of_last_records : {s : ℕ} {b a : bellman.Buffers} {number : ℕ} → bellman.Promise (map_after ints f) s b a number ↔ bellman.Promise (map_of_lasts ints f) s b a number
-  bellman_ford_of_last_records = (λ p. bellman-laws.promise_arcs (ints_lasts f e) p, λ p. bellman-laws.promise_arcs (same_back (ints_lasts f e)) p)
+  bellman_ford_of_last_records = (λ p. bellman_laws.promise_arcs (ints_lasts f e) p, λ p. bellman_laws.promise_arcs (same_back (ints_lasts f e)) p)
 
   pub floyd_warshall_of_last_records : {m m₁ : List ℤ} {r r₁ : List ℕ} {number : ℕ} → floyd.Promise (map_after ints f) m r m₁ r₁ number ↔ floyd.Promise (map_of_lasts ints f) m r m₁ r₁ number
-  floyd_warshall_of_last_records = (λ p. floyd-laws.promise_arcs (ints_lasts f e) p, λ p. floyd-laws.promise_arcs (same_back (ints_lasts f e)) p)
+  floyd_warshall_of_last_records = (λ p. floyd_laws.promise_arcs (ints_lasts f e) p, λ p. floyd_laws.promise_arcs (same_back (ints_lasts f e)) p)
 
   pub johnson_of_last_records : {m m₁ : List ℤ} {s s₁ : johnson.Scratch} {number : ℕ} → johnson.Promise (map_after ints f) m s m₁ s₁ number ↔ johnson.Promise (map_of_lasts ints f) m s m₁ s₁ number
-  johnson_of_last_records = (λ p. johnson-laws.promise_arcs (ints_lasts f e) p, λ p. johnson-laws.promise_arcs (same_back (ints_lasts f e)) p)
+  johnson_of_last_records = (λ p. johnson_laws.promise_arcs (ints_lasts f e) p, λ p. johnson_laws.promise_arcs (same_back (ints_lasts f e)) p)
 
   pub hops_of_last_records : {b a : hops.Buffers} {number p : ℕ} → hops.Promise (map_after ints f) b a number p ↔ hops.Promise (map_of_lasts ints f) b a number p
-  hops_of_last_records = (λ p. hops-laws.promise_arcs (ints_lasts f e) p, λ p. hops-laws.promise_arcs (same_back (ints_lasts f e)) p)
+  hops_of_last_records = (λ p. hops_laws.promise_arcs (ints_lasts f e) p, λ p. hops_laws.promise_arcs (same_back (ints_lasts f e)) p)
 
   pub page_of_last_records : {s : ℕ} {l : List ℤ} {a : page.Answer} → page.Promise (map_after ints f) s l a ↔ page.Promise (map_of_lasts ints f) s l a
-  page_of_last_records = (λ p. page-laws.promise_arcs (ints_lasts f e) p, λ p. page-laws.promise_arcs (same_back (ints_lasts f e)) p)
+  page_of_last_records = (λ p. page_laws.promise_arcs (ints_lasts f e) p, λ p. page_laws.promise_arcs (same_back (ints_lasts f e)) p)
 
 module _ (f : Feed (Link RawCost) Floats) (e : f.lent.count ≡ 0) where
   pub dijkstra_path_of_last_records : {s : ℕ} {k : Cutoff} {b a : search.Buffers} {number : ℕ}
       → search.Promise (map_after floats f) s k b a number ↔ search.Promise (map_of_lasts floats f) s k b a number
-  dijkstra_path_of_last_records = (λ p. search-laws.promise_arcs (floats_lasts f e) p, λ p. search-laws.promise_arcs (same_back (floats_lasts f e)) p)
+  dijkstra_path_of_last_records = (λ p. search_laws.promise_arcs (floats_lasts f e) p, λ p. search_laws.promise_arcs (same_back (floats_lasts f e)) p)
 
   pub hops_f64_of_last_records : {b a : hops.Buffers} {number p : ℕ} → hops.Promise (map_after floats f) b a number p ↔ hops.Promise (map_of_lasts floats f) b a number p
-  hops_f64_of_last_records = (λ p. hops-laws.promise_arcs (floats_lasts f e) p, λ p. hops-laws.promise_arcs (same_back (floats_lasts f e)) p)
+  hops_f64_of_last_records = (λ p. hops_laws.promise_arcs (floats_lasts f e) p, λ p. hops_laws.promise_arcs (same_back (floats_lasts f e)) p)
 
 -- ---- where the bound is over its limit or the marks are too few: every put and every question gives 1
 floyd_short : (g : Net ℤ) (m : List ℤ) (r : List ℕ) → whole_net g ≡ false → floyd.enough g m r ≡ false
@@ -192,25 +192,25 @@ module _ (f : Feed (Link ℤ) Ints) (e : f.lent.count ≡ 0) (over : lent_whole 
   put_past_limits r = next_one ints follows_ints f e r over
 
   pub dijkstra_past_limits : {s : ℕ} {b a : dijkstra.Buffers} {number : ℕ} → dijkstra.Promise (map_after ints f) s b a number → number ≡ 1
-  dijkstra_past_limits p = (dijkstra-laws.promise_exactly p 1).1 (rw not_whole)
+  dijkstra_past_limits p = (dijkstra_laws.promise_exactly p 1).1 (rw not_whole)
 
   pub a_star_past_limits : {q : star.Question} {b a : star.Buffers} {r : star.Answer} → star.Promise (map_after ints f) q b a r → r.number ≡ 1
-  a_star_past_limits p = (star-laws.promise_exactly p 1).1 (rw not_whole)
+  a_star_past_limits p = (star_laws.promise_exactly p 1).1 (rw not_whole)
 
   pub bellman_ford_past_limits : {s : ℕ} {b a : bellman.Buffers} {number : ℕ} → bellman.Promise (map_after ints f) s b a number → number ≡ 1
-  bellman_ford_past_limits p = (bellman-laws.promise_exactly p 1).1 (rw not_whole)
+  bellman_ford_past_limits p = (bellman_laws.promise_exactly p 1).1 (rw not_whole)
 
   pub floyd_warshall_past_limits : {m m₁ : List ℤ} {r r₁ : List ℕ} {number : ℕ} → floyd.Promise (map_after ints f) m r m₁ r₁ number → number ≡ 1
-  floyd_warshall_past_limits {m} {r = r} p = (matrix-laws.promise_exactly p 1).1 (floyd_short (map_after ints f) m r not_whole)
+  floyd_warshall_past_limits {m} {r = r} p = (matrix_laws.promise_exactly p 1).1 (floyd_short (map_after ints f) m r not_whole)
 
   pub johnson_past_limits : {m m₁ : List ℤ} {s s₁ : johnson.Scratch} {number : ℕ} → johnson.Promise (map_after ints f) m s m₁ s₁ number → number ≡ 1
-  johnson_past_limits p = (matrix-laws.promise_exactly p 1).1 (rw not_whole)
+  johnson_past_limits p = (matrix_laws.promise_exactly p 1).1 (rw not_whole)
 
   pub hops_past_limits : {b a : hops.Buffers} {number p : ℕ} → hops.Promise (map_after ints f) b a number p → number ≡ 1
-  hops_past_limits p = (hops-laws.promise_exactly p 1).1 (rw not_whole)
+  hops_past_limits p = (hops_laws.promise_exactly p 1).1 (rw not_whole)
 
   pub page_past_limits : {s : ℕ} {l : List ℤ} {a : page.Answer} → page.Promise (map_after ints f) s l a → a.number ≡ 1
-  page_past_limits p = (page-laws.promise_exactly p 1).1 (rw not_whole)
+  page_past_limits p = (page_laws.promise_exactly p 1).1 (rw not_whole)
 
 module _ (f : Feed (Link RawCost) Floats) (e : f.lent.count ≡ 0) (over : lent_whole f.bound 0 0 f.marks ≡ false) where
   not_whole_f64 : whole_net (map_after floats f) ≡ false
@@ -220,10 +220,10 @@ module _ (f : Feed (Link RawCost) Floats) (e : f.lent.count ≡ 0) (over : lent_
   put_f64_past_limits r = next_one floats follows_floats f e r over
 
   pub dijkstra_path_past_limits : {s : ℕ} {k : Cutoff} {b a : search.Buffers} {number : ℕ} → search.Promise (map_after floats f) s k b a number → number ≡ 1
-  dijkstra_path_past_limits p = (search-laws.promise_exactly p 1).1 (rw not_whole_f64)
+  dijkstra_path_past_limits p = (search_laws.promise_exactly p 1).1 (rw not_whole_f64)
 
   pub hops_f64_past_limits : {b a : hops.Buffers} {number p : ℕ} → hops.Promise (map_after floats f) b a number p → number ≡ 1
-  hops_f64_past_limits p = (hops-laws.promise_exactly p 1).1 (rw not_whole_f64)
+  hops_f64_past_limits p = (hops_laws.promise_exactly p 1).1 (rw not_whole_f64)
 
 -- ---- a record with an end that the map has not, put into a good table: 2, and the table and the count stay, so the feed goes on from them
 module _ (d : Bool) (m : ℕ) (marks : List ℕ) (r : Link ℤ) (s : Ints) (good : ints_no m s.count marks s.from s.to s.costs ≡ 0) (f : inside m marks r ≡ false) where

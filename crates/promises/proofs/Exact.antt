@@ -33,7 +33,7 @@ use Rattle.pending.proofs.Exact.{WholeCost}
 use Rattle.dijkstra.specs.Promise as dijkstra
 use Rattle.dijkstra_path.specs.Promise as search
 use Rattle.dijkstra_path.proofs.Settles.{cutoff_nan, cutoff_infinity}
-use Rattle.dijkstra_path.proofs.Exact as search-exact
+use Rattle.dijkstra_path.proofs.Exact as search_exact
 use Rattle.hops.proofs.Settles.{SameEnds, ends_back, inside_over}
 use Rattle.promises.specs.Exact.{pattern, converted, Converted, SameNumber, neither, both, Agrees}
 
@@ -93,7 +93,7 @@ module _ {g : Net ℤ} {h : Net FloatCost} (k : Converted g h) where
   from u v x a = let t = arc_from u v (float_cost x true) a in (t.0, t.1, subst (WholeCost t.0) (ap (λ (y : FloatCost). y.bits) t.2) (whole_cost u v t.0 t.1))
 
 -- an entry and the f64 entry that shows the same are one number, which f64 holds exactly, or both none
-same_number : {Arc : ℕ → ℕ → ℤ → Type 0} {s v : ℕ} {d : ℤ} {x : ℕ} (y : Option ℤ) → d ≡ shown none_i64 y → search-exact.SameNumber y x → Entry Arc s v d → SameNumber d x
+same_number : {Arc : ℕ → ℕ → ℤ → Type 0} {s v : ℕ} {d : ℤ} {x : ℕ} (y : Option ℤ) → d ≡ shown none_i64 y → search_exact.SameNumber y x → Entry Arc s v d → SameNumber d x
 same_number none e q t = neither e q
 same_number {d} (some z) e q t =
     let n : ℕ = q.0 in
@@ -121,14 +121,14 @@ module _ {g : Net ℤ} {h : Net FloatCost} {s : ℕ} {b e : dijkstra.Buffers} {b
           beside Found (behind 1 (dijkstra.table g s b)) (behind 1 (search.table h s None b')) e e' number number'
           (alike refl inside (λ x y p q z. absurd (let c : ◌≡◌ {A = ℕ} 2 0 = z in omega (arith, c)))
           (λ i i'. alike refl (k.has s) (λ x y p q z. absurd (let c : ◌≡◌ {A = ℕ} 3 0 = z in omega (arith, c)))
-          (λ a a'. alike refl (λ w. absurd (none_bad k w), λ z. absurd (search-exact.exact_good (ArcOf g) (to k) (from k) z.1 z.2))
+          (λ a a'. alike refl (λ w. absurd (none_bad k w), λ z. absurd (search_exact.exact_good (ArcOf g) (to k) (from k) z.1 z.2))
           (λ x y p q z. absurd (let c : ◌≡◌ {A = ℕ} 6 0 = z in omega (arith, c)))
           (λ w w'. alike refl itself (λ x y p q z. p.0) (λ t t'. tt)))))
           x y
 
       each : {v : ℕ} → number' ≡ 0 → Entry (ArcOf g) s v (get_or e.dist v (pos 0)) → v < g.bound → SameNumber (get_or e.dist v (pos 0)) (get_or e'.memory.dist v none_f64)
       each {v} z t m =
-          let y = search-exact.exact_entry g (to k) (from k) r z v (subst (λ (j : ℕ). v < j) k.bound m) (total_of t) in
+          let y = search_exact.exact_entry g (to k) (from k) r z v (subst (λ (j : ℕ). v < j) k.bound m) (total_of t) in
           same_number y.0 y.1 y.2 t
 
   -- a cutoff that is NaN or +infinity cuts nothing

@@ -34,20 +34,20 @@ use Rattle.search.specs.Lists.{has_memory, wiped_memory}
 use Rattle.matrix.specs.Matrix.{square, Matrix, Buffers, buffers_of, table, AllPairs}
 use Rattle.matrix.proofs.Matrix.{place}
 use Rattle.dijkstra.specs.Promise as dijkstra
-use Rattle.dijkstra.proofs.Refusals as dijkstra-refusals
+use Rattle.dijkstra.proofs.Refusals as dijkstra_refusals
 use Rattle.a_star.specs.Promise as star
-use Rattle.a_star.proofs.Settles as star-laws
+use Rattle.a_star.proofs.Settles as star_laws
 use Rattle.bellman_ford.specs.Promise as bellman
-use Rattle.bellman_ford.proofs.Refusals as bellman-refusals
+use Rattle.bellman_ford.proofs.Refusals as bellman_refusals
 use Rattle.floyd_warshall.specs.Promise as floyd
 use Rattle.johnson.specs.Promise as johnson
 use Rattle.hops.specs.Promise as hops
-use Rattle.hops.proofs.Settles as hops-laws
-use Rattle.hops.proofs.Steps as hops-steps
-use Rattle.hops.proofs.Refusals as hops-refusals
+use Rattle.hops.proofs.Settles as hops_laws
+use Rattle.hops.proofs.Steps as hops_steps
+use Rattle.hops.proofs.Refusals as hops_refusals
 use Rattle.dijkstra_path.specs.Promise as search
-use Rattle.dijkstra_path.proofs.Refusals as search-refusals
-use Rattle.dijkstra_path.proofs.Settles as search-laws
+use Rattle.dijkstra_path.proofs.Refusals as search_refusals
+use Rattle.dijkstra_path.proofs.Settles as search_laws
 use Rattle.promises.specs.Used.{LeaveSame, ran, refused, rows_used, dijkstra_used, dijkstra_path_used, bellman_used, a_star_used, pairs_used, johnson_used, hops_used}
 
 -- ---- used parts
@@ -137,8 +137,8 @@ module _ (g : Net ℤ) (s : ℕ) (b b' : dijkstra.Buffers) where
           → Settled g.bound (Entry (ArcOf g) s) b.dist e.dist × (e.scratch ≡ dijkstra.clear g b)
           → Settled g.bound (Entry (ArcOf g) s) b'.dist e'.dist × (e'.scratch ≡ dijkstra.clear g b') → DijkstraLeave 0 e e'
       settled l i h e e' p q =
-          let k = (dijkstra-refusals.enough_passed g s b l i h).dist in
-          let k' = (dijkstra-refusals.enough_passed g s b' (sym long ∙ l) i h).dist in
+          let k = (dijkstra_refusals.enough_passed g s b l i h).dist in
+          let k' = (dijkstra_refusals.enough_passed g s b' (sym long ∙ l) i h).dist in
           ran (inl refl) (dijkstra_left e e' (part_settled (pos 0) (λ v k x y. entry_one) k k' p.0 q.0) p.1 q.1)
 
   pub dijkstra_memory : {e e' : dijkstra.Buffers} {number number' : ℕ} → dijkstra.enough g b ≡ dijkstra.enough g b' → dijkstra.Promise g s b e number → dijkstra.Promise g s b' e' number'
@@ -177,8 +177,8 @@ module _ (g : Net ℤ) (s : ℕ) (b b' : bellman.Buffers) where
           → Settled g.bound (Entry (ArcOf g) s) b.dist e.dist × (e.scratch ≡ bellman.clear g b)
           → Settled g.bound (Entry (ArcOf g) s) b'.dist e'.dist × (e'.scratch ≡ bellman.clear g b') → BellmanLeave 0 e e'
       settled l i e e' p q =
-          let k = (bellman-refusals.enough_passed g b l i).dist in
-          let k' = (bellman-refusals.enough_passed g b' (sym long ∙ l) i).dist in
+          let k = (bellman_refusals.enough_passed g b l i).dist in
+          let k' = (bellman_refusals.enough_passed g b' (sym long ∙ l) i).dist in
           ran (inl refl) (bellman_left e e' (part_settled (pos 0) (λ v k x y. entry_one) k k' p.0 q.0) p.1 q.1)
 
   pub bellman_ford_memory : {e e' : bellman.Buffers} {number number' : ℕ} → bellman.enough g b ≡ bellman.enough g b' → bellman.Promise g s b e number → bellman.Promise g s b' e' number'
@@ -196,7 +196,7 @@ module _ (g : Net FloatCost) (s : ℕ) (k : Cutoff) (b b' : search.Buffers) wher
       let o = rows_wiped g 0 b.rows b'.rows in
       λ i. (o i, memory_of (d i) (p i) (part_filled m 0 M.peaks N.peaks i) (part_filled m 0 M.words N.words i) (part_filled m 0 M.keys N.keys i))
 
-  path_answers : search-refusals.Passed g s b → search-refusals.Passed g s b' → {x y : End ℕ} {e e' : search.Buffers} → x ≡ y → search.Answers g.bound x b e → search.Answers g.bound y b' e'
+  path_answers : search_refusals.Passed g s b → search_refusals.Passed g s b' → {x y : End ℕ} {e e' : search.Buffers} → x ≡ y → search.Answers g.bound x b e → search.Answers g.bound y b' e'
       → e ≡ search.left g b e.memory.dist e.memory.preds → e' ≡ search.left g b' e'.memory.dist e'.memory.preds
       → dijkstra_path_used g.bound (most_arcs_of g) e ≡ dijkstra_path_used g.bound (most_arcs_of g) e'
   path_answers w w' {e = e} same a a' p q =
@@ -212,13 +212,13 @@ module _ (g : Net FloatCost) (s : ℕ) (k : Cutoff) (b b' : search.Buffers) wher
       → (number ≡ number') × LeaveSame (dijkstra_path_used g.bound (most_arcs_of g)) number b b' e e'
   dijkstra_path_memory {e} {e'} {number} {number'} long p q =
       let used = dijkstra_path_used g.bound (most_arcs_of g) in
-      let passed = search-refusals.enough_passed g s in
+      let passed = search_refusals.enough_passed g s in
       beside (λ (n : ℕ) (x y : search.Buffers). LeaveSame used n b b' x y) (search.table g s k b) (search.table g s k b') e e' number number'
       (alike refl long (untouched refl)
       (λ w w'. alike refl refl (untouched refl)
       (λ i i'. alike refl refl (untouched refl)
       (λ h h'. alike refl itself (λ x y p q. ran (inr (inl refl)) (through used p q path_blank))
-      (λ z z'. alike refl itself (λ x y p q. ran (inl refl) (path_answers (passed b w i h) (passed b' w' i h) (search-laws.one_end p.1 q.1) p.3 q.3 p.4 q.4))
+      (λ z z'. alike refl itself (λ x y p q. ran (inl refl) (path_answers (passed b w i h) (passed b' w' i h) (search_laws.one_end p.1 q.1) p.3 q.3 p.4 q.4))
       (λ u u'. tt))))))
       p.follows q.follows
 
@@ -259,7 +259,7 @@ module _ (g : Net ℤ) (q : star.Question) (b b' : star.Buffers) where
     where
       star_ran : (y y' : star.Result) → star.Outcome g q b y → star.Outcome g q b' y' → StarSame 0 y y'
       star_ran y y' o u =
-          let k = star-laws.outcome_path o u in
+          let k = star_laws.outcome_path o u in
           let path = star_left o.path ∙ ap (λ (l : List ℕ). a_star_used g.bound (most_arcs_of g) (star.left g b' l)) k.1 in
           let buffers : star.Result → star.Buffers = λ y. y.buffers in (
             ap (λ (y : star.Result). y.cost) o.leaves ∙ (k.0 ∙ sym (ap (λ (y : star.Result). y.cost) u.leaves)),
@@ -335,7 +335,7 @@ buffers_of_lem a = ap (λ (o : hops.Result). o.buffers) a
 module _ {C : Type 0} (g : Net C) (b b' : hops.Buffers) where
   hops_part : (x y : List ℕ) → width g * width g ≤ length b.matrix → width g * width g ≤ length b'.matrix → hops.Matrix g b.matrix x → hops.Matrix g b'.matrix y
       → take (width g * width g) x ≡ take (width g * width g) y
-  hops_part x y l l' p q = part_square (width g) 0 x y (omega (arith, l, p.long)) (omega (arith, l', q.long)) (λ i j h k. hops-steps.entry_one (p.each i j h k) (q.each i j h k))
+  hops_part x y l l' p q = part_square (width g) 0 x y (omega (arith, l, p.long)) (omega (arith, l', q.long)) (λ i j h k. hops_steps.entry_one (p.each i j h k) (q.each i j h k))
 
   hops_left : (x y : List ℕ) → take (width g * width g) x ≡ take (width g * width g) y
       → hops_used g.bound (most_arcs_of g) (width g) (hops.left g b x) ≡ hops_used g.bound (most_arcs_of g) (width g) (hops.left g b' y)
@@ -353,10 +353,10 @@ module _ {C : Type 0} (g : Net C) (b b' : hops.Buffers) where
   hops_refused : {k : ℕ} → 1 ≤ k → k ≤ 5 → (o u : hops.Result) → o ≡ hops.result_of 0 b → u ≡ hops.result_of 0 b' → HopsSame k o u
   hops_refused l h o u a c = (counted a ∙ sym (counted c), refused l h (buffers_of_lem a) (buffers_of_lem c))
 
-  hops_after : hops.enough g b ≡ true → hops.enough g b' ≡ true → (o u : hops.Result) → hops-laws.After g b o → hops-laws.After g b' u → HopsSame 0 o u
+  hops_after : hops.enough g b ≡ true → hops.enough g b' ≡ true → (o u : hops.Result) → hops_laws.After g b o → hops_laws.After g b' u → HopsSame 0 o u
   hops_after w w' o u a c =
-      let l = hops-refusals.fits_of g.bound (most_arcs_of g) (width g) b (and_right (whole_net g) _ w) in
-      let l' = hops-refusals.fits_of g.bound (most_arcs_of g) (width g) b' (and_right (whole_net g) _ w') in
+      let l = hops_refusals.fits_of g.bound (most_arcs_of g) (width g) b (and_right (whole_net g) _ w) in
+      let l' = hops_refusals.fits_of g.bound (most_arcs_of g) (width g) b' (and_right (whole_net g) _ w') in
       let part = hops_part o.buffers.matrix u.buffers.matrix l.matrix l'.matrix a.0 c.0 in
       let rest = through (hops_used g.bound (most_arcs_of g) (width g)) (buffers_of_lem a.1) (buffers_of_lem c.1) (hops_left o.buffers.matrix u.buffers.matrix part) in
       (counted a.1 ∙ sym (counted c.1), ran (inl refl) rest)

@@ -10,7 +10,7 @@ use Rattle.rows.specs.RowArc.{RowArc, Sound}
 use Rattle.bag.specs.Ints.{ints}
 use Rattle.bag.specs.Order.{pick}
 use Rattle.pending.specs.Setting.{Setting}
-use Rattle.turns.specs.Kind.{Kind, setting_of as settingFor}
+use Rattle.turns.specs.Kind.{Kind, setting_of as setting_for}
 use Rattle.turns.specs.Memory.{Memory}
 use Rattle.turns.specs.Searched.{Searched as SearchedBy}
 
@@ -53,7 +53,7 @@ guided h = record {
 
 -- the pending bag's setting for what is asked
 abbrev pub setting_of : Asked → Setting ℤ ℤ
-setting_of q = settingFor (guided q.guess) (target_of q.bound q.target) q.source
+setting_of q = setting_for (guided q.guess) (target_of q.bound q.target) q.source
 
 -- the greatest cost that the search adds up: a 32-bit cost shifted by two potentials stays below
 abbrev pub dear : ℕ

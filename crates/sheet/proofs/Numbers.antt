@@ -31,7 +31,7 @@ use Rattle.floyd_warshall.specs.Promise as floyd
 use Rattle.johnson.specs.Promise as johnson
 use Rattle.matrix.specs.Matrix as matrix
 use Rattle.hops.specs.Promise as hops
-use Rattle.hops.proofs.Settles as hops-laws
+use Rattle.hops.proofs.Settles as hops_laws
 use Rattle.dijkstra_path.specs.Promise as path
 use Rattle.answers.specs.Answers.{zeros, zeros_i}
 use Rattle.sheet.specs.Sheet as sheet
@@ -114,7 +114,7 @@ pairs_numbers {S} {g} {long} {clear} {b} {e} {number} k l x =
     among (λ n. In n (0 ∷ 7 ∷ [])) (matrix.table g long clear b) e number (inl k then inl l then inr (there (here refl)) then inr (here refl) then tt) x.follows
 
 hops_numbers : {C : Type 0} {g : Net C} {b e : hops.Buffers} {number p : ℕ} → hops.enough g b ≡ true → inside_net g ≡ true → hops.Promise g b e number p → number ≡ 0
-hops_numbers k l a = (hops-laws.promise_exactly a 0).1 (k, (l, tt))
+hops_numbers k l a = (hops_laws.promise_exactly a 0).1 (k, (l, tt))
 
 path_numbers : {g : Net FloatCost} {s : ℕ} {c : Cutoff} {b e : path.Buffers} {number : ℕ} → path.enough g b ≡ true → inside_net g ≡ true → path.Promise g s c b e number → In number (0 ∷ 3 ∷ 6 ∷ [])
 path_numbers {g} {s} {c} {b} {e} {number} k l x =

@@ -128,16 +128,16 @@ module _ {C R S : Type 0} (k : Kind C R S) (l : Follows k) (f : Feed R S) (e : k
 
   -- ---- what the next put gives, whatever was put before
   module _ (r : R) where
-    next-number :
+    next_number :
         k.number (k.put f.directed f.bound f.marks r (fed k f))
         ≡ (placing f.directed f.bound (k.room (fed k f)) f.marks (k.seen r).a (k.seen r).b (k.count (fed k f)) (k.places (fed k f))).number
     unfolding store
-    next-number = ap (λ (t : Table C). t.number) (l.shows f.directed f.bound f.marks r (fed k f))
+    next_number = ap (λ (t : Table C). t.number) (l.shows f.directed f.bound f.marks r (fed k f))
 
     -- 1 where the bound is over its limit or the marks are too few
     pub next_one : lent_whole f.bound 0 0 f.marks ≡ false → k.number (k.put f.directed f.bound f.marks r (fed k f)) ≡ 1
     next_one w =
-        next-number
+        next_number
         ∙ (put_exactly f.directed f.bound (k.room (fed k f)) f.marks (k.seen r).a (k.seen r).b (k.count (fed k f)) (k.places (fed k f)) (λ p. p) 1).1 (fed_limits ∙ w)
 
     -- else 2 exactly for a record with an end that the map has not
@@ -145,7 +145,7 @@ module _ {C R S : Type 0} (k : Kind C R S) (l : Follows k) (f : Feed R S) (e : k
     next_two w =
         let x = put_exactly f.directed f.bound (k.room (fed k f)) f.marks (k.seen r).a (k.seen r).b (k.count (fed k f)) (k.places (fed k f)) (λ p. p) 2 in
         let i = fed_shown.sound.inside in
-        (λ z. ⊎_elim (λ y. not_both i y) (λ y. y.1) (x.0 (sym next-number ∙ z)).1, λ z. next-number ∙ x.1 (fed_limits ∙ w, inr (i, z)))
+        (λ z. ⊎_elim (λ y. not_both i y) (λ y. y.1) (x.0 (sym next_number ∙ z)).1, λ z. next_number ∙ x.1 (fed_limits ∙ w, inr (i, z)))
 
 -- lists of different links with the same arcs are of one length
 alike : {C : Type 0} (d d' : Bool) → d ≡ d' → (ls ks : List (Link C)) → Single d ls → Single d' ks → ((u v : ℕ) (c : C) → Arc d ls u v c ↔ Arc d' ks u v c) → length ls ≡ length ks

@@ -126,20 +126,20 @@ entry_is {K} {Y = Y} {M = M} g v = go (cells_of Y M v) (g.oks v) (g.tidy_d v)
 -- ---- a store: v has the distance x and the predecessor o, and is pending
 module _ {K C : Type 0} {Y : Kind K C} {ok : K → Type 0} (W : Lawful Y ok) {m : ℕ} {M M' : Memory K} {n n' : ℕ} (g : Good Y m M n) (v : ℕ) (inside : v < m) (x : K) (fine : Y.good x) (o : Option ℕ)
     (back : pred_in (shown none_u32 o) ≡ o)
-    (dist_is : M'.dist ≡ set M.dist v x) (preds-is : M'.preds ≡ set M.preds v (shown none_u32 o)) (bag-is : Bag Y.order M'.peaks M'.words M'.keys n')
-    (content-is : content_of M'.words M'.keys ≡ set (content_of M.words M.keys) v (some (Y.key x v))) (long : length M'.words ≡ m) where
+    (dist_is : M'.dist ≡ set M.dist v x) (preds_is : M'.preds ≡ set M.preds v (shown none_u32 o)) (bag_is : Bag Y.order M'.peaks M'.words M'.keys n')
+    (content_is : content_of M'.words M'.keys ≡ set (content_of M.words M.keys) v (some (Y.key x v))) (long : length M'.words ≡ m) where
   in_ct : v < length (content_of M.words M.keys)
   in_ct = omega (arith, content_long M.words M.keys g.bag.long, g.long_b)
 
   -- what the lists say then
   pub stored_cells : cells_of Y M' ≡ upd (cells_of Y M) v (has x o true)
   stored_cells =
-      (λ i. cells Y (dist_is i) (preds-is i) (content-is i))
+      (λ i. cells Y (dist_is i) (preds_is i) (content_is i))
       ∙ fun_ext (cells_set Y M.dist M.preds (content_of M.words M.keys) v x (shown none_u32 o) (some (Y.key x v)) (omega (arith, g.long_d)) (omega (arith, g.long_p)) in_ct)
       ∙ (λ i. upd (cells_of Y M) v (cell_of (W.back x fine i) (back i) true))
 
   stored_content : (λ w. get_or (content_of M'.words M'.keys) w none) ≡ upd (λ w. get_or (content_of M.words M.keys) w none) v (some (Y.key x v))
-  stored_content = (λ i w. get_or (content-is i) w none) ∙ fun_ext (set_upd (content_of M.words M.keys) v (some (Y.key x v)) none in_ct)
+  stored_content = (λ i w. get_or (content_is i) w none) ∙ fun_ext (set_upd (content_of M.words M.keys) v (some (Y.key x v)) none in_ct)
 
   -- one entry of a list, and of what it stands for
   tidy : {X : Type 0} (l l' : List X) (z y : X) (f : Cell K → X) → l' ≡ set l v y → v < length l → f (has x o true) ≡ y → ((w : ℕ) → get_or l w z ≡ f (cells_of Y M w)) → (w : ℕ)
@@ -163,14 +163,14 @@ module _ {K C : Type 0} {Y : Kind K C} {ok : K → Type 0} (W : Lawful Y ok) {m 
   pub stored_good : Good Y m M' n'
   stored_good = record {
     long_d = ap length dist_is ∙ length-set M.dist v x ∙ g.long_d;
-    long_p = ap length preds-is ∙ length-set M.preds v (shown none_u32 o) ∙ g.long_p;
+    long_p = ap length preds_is ∙ length-set M.preds v (shown none_u32 o) ∙ g.long_p;
     long_b = long;
-    bag = bag-is;
+    bag = bag_is;
     holds = subst (λ (s : ℕ → Cell K). Holds (turn_of Y) (λ w. get_or (content_of M'.words M'.keys) w none) s) (sym stored_cells)
         (subst (λ (c : ℕ → Option K). Holds (turn_of Y) c (upd (cells_of Y M) v (has x o true))) (sym stored_content) (holds_store (turn_of Y) g.holds v x o));
     oks = λ w. subst (λ (s : ℕ → Cell K). OkCell Y.good (s w)) (sym stored_cells) (stored_oks w);
     tidy_d = tidy M.dist M'.dist Y.blank x (λ c. shown Y.blank (dist_of c)) dist_is (omega (arith, g.long_d)) refl g.tidy_d;
-    tidy_p = tidy M.preds M'.preds none_u32 (shown none_u32 o) (λ c. shown none_u32 (pred_of c)) preds-is (omega (arith, g.long_p)) refl g.tidy_p;
+    tidy_p = tidy M.preds M'.preds none_u32 (shown none_u32 o) (λ c. shown none_u32 (pred_of c)) preds_is (omega (arith, g.long_p)) refl g.tidy_p;
   }
 
 -- ---- the lists before a search
