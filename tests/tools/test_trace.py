@@ -8,7 +8,7 @@ README = """# Small
 
 A sentence on `small` and `double` of `crates/small/src/lib.rt`. It has `tell` too; `told_one` is another's, as `twice_is` in `double` is.
 Run `make test`, or `tools/pack --tight < one.txt`.
-All is defined: `number`, `out`, `'outer`, `Colour`, `Red`, `LIMIT`, `inner`, `to`, `length`, `small::double`.
+All is defined: `number`, `out`, `in_order`, `'outer`, `Colour`, `Red`, `LIMIT`, `inner`, `to`, `length`, `small::double`.
 And `lib::Count`, `Colour::Red`, `small_put`, `TestOne`, `KIT`, `added_one`, `rules`, `Map`.
 In a file: `twice` in `small/specs/Sums.antt`; `Told` in `small/specs/Sums.antt`, `small/specs/Other.antt` and `small/specs/Last.antt`.
 Words: `specs`, `proofs`, `one`, `.map`, `engine E`, `usize`, `docs`, `NOTICE`, `small/specs/*.antt`, `crates/NAME/src`, `lib.rt`, `specs/`.
@@ -52,6 +52,10 @@ pub enum Colour {
 }
 
 pub const LIMIT: usize = 7;
+
+struct Kept {
+    ghost in_order: { LIMIT < 9 },
+}
 
 mod inner;
 
@@ -112,6 +116,7 @@ WRONG = [
     ("Quoted", "Quoted is defined nowhere"),
     ("blocked_one", "blocked_one is defined nowhere"),
     ("local_one", "local_one is defined nowhere"),
+    ("ghost", "ghost is defined nowhere"),
     ("other_word", "other_word is defined nowhere"),
     ("own_word", "own_word is defined nowhere"),
     ("own_function", "own_function is defined nowhere"),
