@@ -130,7 +130,8 @@ def sources(root, crate):
 
 
 def public_functions(root):
-    """Every public function of every crate: of each module but those that the top of the crate declares without `pub`."""
+    """Every public function of every crate: of each module but those that the top of the crate declares without `pub`. One of a static library that has the
+    name, the parameters, the result and the clauses of a function of a crate that it lists is that function under an exported name, and does not count twice."""
     texts = {crate: sources(root, crate) for crate in crates(root)}
     holders = lent_structs([text for found in texts.values() for text in found.values()])
     out = []
@@ -144,7 +145,23 @@ def public_functions(root):
             place = crate if module in ("lib", "main") else crate + "::" + module
             for m in FN.finditer(text):
                 out.append(function_at(root, place, file, found, m, holders))
-    return out
+    libraries = exported(root)
+    listed = {crate for deps in libraries.values() for crate in deps}
+    known = {(f.crate, promise(root, f)) for f in out if f.crate in listed}
+    return [f for f in out if f.crate not in libraries or not any((crate, promise(root, f)) in known for crate in libraries[f.crate])]
+
+
+def exported(root):
+    """The static libraries, each with the crates that its line lists."""
+    listed = os.path.join(root, "crates.txt")
+    found = re.findall(r"(?m)^(\w+) staticlib:([^#\n]*)", read(listed)) if os.path.exists(listed) else []
+    return {name: deps.split() for name, deps in found}
+
+
+def promise(root, f):
+    """The head and the clauses of a function, in one line, whatever calls it may be called by, and what their words stand for."""
+    said, imported = flat(" ".join(f.head)).replace('pub extern "C" fn ', "pub fn "), ghost_imports(root, f.file)
+    return said, tuple((word, imported.get(word)) for word in re.split(r"[\s(){}\[\],;]+", said) if imported.get(word))
 
 
 def lent_structs(texts):

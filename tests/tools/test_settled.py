@@ -447,6 +447,35 @@ class Settled(unittest.TestCase):
                 status, said = run("settled", broken(FILES, name, old, new))
                 self.assertEqual(status, 0, said)
 
+    def test_exported(self):
+        """A function of a static library is that of a crate that it lists where it promises the same, and has to be settled where it promises anything else."""
+        door = """ghost use Rattle.std.specs.Prelude.{◌≡◌, ◌≤◌};
+ghost use Rattle.small.specs.Sums.{twice};
+
+// Twice a number, for C.
+#[unsafe(no_mangle)]
+pub extern "C" fn double(n: usize) -> usize
+    requires { n ≤ 100 }
+    ensures { result ≡ twice n }
+{
+    small::double(n)
+}
+"""
+        same = "small_c staticlib: small\n"
+        for line, text, wanted in (
+            (same, door, 0),
+            (same, door.replace("n ≤ 100", "n ≤ 99"), 1),
+            (same, door.replace("result ≡ twice n", "result ≡ twice (twice n)"), 1),
+            (same, door.replace("Rattle.small.specs.Sums.{twice}", "Rattle.small.specs.Others.{twice}"), 1),
+            (same, door.replace("fn double", "fn doubled"), 1),
+            ("small_c: small\n", door, 1),
+            ("small_c staticlib: more\n", door, 1),
+        ):
+            with self.subTest(line + text):
+                files = dict(FILES, **{"crates.txt": FILES["crates.txt"] + line, "crates/small_c/src/lib.rt": text})
+                status, said = run("settled", files)
+                self.assertEqual(status, wanted, said)
+
     def test_declared(self):
         """A name of the library is what declares it, however often it is passed on."""
         for module, name, *declared in DECLARED:

@@ -1,4 +1,5 @@
-// The questions and puts as C functions. Each makes the map of its scalars, asks the question, and promises what that promises.
+// The questions and puts as C takes them; the crate `dimetumble_c` exports them.
+// Each makes the map of its scalars, asks the question, and promises what that promises.
 // A slice is a pointer and a length. A flag is a byte: 0 is no, any other is yes.
 // What a question gives beside its number is written to a lent place.
 #![tactic(auto)]
@@ -32,8 +33,7 @@ fn limit(capped: u8, cutoff: f64) -> Cutoff
 }
 
 // Put a record into an integer map.
-#[unsafe(no_mangle)]
-pub extern "C" fn dimetumble_put(
+pub fn dimetumble_put(
     bound: usize,
     count: &mut usize,
     directed: u8,
@@ -68,8 +68,7 @@ pub extern "C" fn dimetumble_put(
 }
 
 // Put a record into an f64 map.
-#[unsafe(no_mangle)]
-pub extern "C" fn dimetumble_put_f64(
+pub fn dimetumble_put_f64(
     bound: usize,
     count: &mut usize,
     directed: u8,
@@ -108,8 +107,7 @@ pub extern "C" fn dimetumble_put_f64(
 }
 
 // The least totals from a source, of costs that are not below zero.
-#[unsafe(no_mangle)]
-pub extern "C" fn dimetumble_dijkstra(
+pub fn dimetumble_dijkstra(
     bound: usize,
     count: usize,
     directed: u8,
@@ -157,8 +155,7 @@ pub extern "C" fn dimetumble_dijkstra(
 }
 
 // The cost and the path from a source to a target, by a heuristic.
-#[unsafe(no_mangle)]
-pub extern "C" fn dimetumble_a_star(
+pub fn dimetumble_a_star(
     bound: usize,
     count: usize,
     directed: u8,
@@ -220,8 +217,7 @@ pub extern "C" fn dimetumble_a_star(
 }
 
 // Distances and predecessors from a source over the open arcs, up to a cutoff.
-#[unsafe(no_mangle)]
-pub extern "C" fn dimetumble_dijkstra_path_impl(
+pub fn dimetumble_dijkstra_path_impl(
     bound: usize,
     count: usize,
     directed: u8,
@@ -275,8 +271,7 @@ pub extern "C" fn dimetumble_dijkstra_path_impl(
 }
 
 // The same under its second name: the two questions have one promise.
-#[unsafe(no_mangle)]
-pub extern "C" fn dimetumble_dijkstra_path_f64(
+pub fn dimetumble_dijkstra_path_f64(
     bound: usize,
     count: usize,
     directed: u8,
@@ -312,8 +307,7 @@ pub extern "C" fn dimetumble_dijkstra_path_f64(
 }
 
 // The least totals from a source, of signed costs.
-#[unsafe(no_mangle)]
-pub extern "C" fn dimetumble_bellman_ford(
+pub fn dimetumble_bellman_ford(
     bound: usize,
     count: usize,
     directed: u8,
@@ -359,8 +353,7 @@ pub extern "C" fn dimetumble_bellman_ford(
 }
 
 // The least totals between all pairs of nodes.
-#[unsafe(no_mangle)]
-pub extern "C" fn dimetumble_floyd_warshall(
+pub fn dimetumble_floyd_warshall(
     bound: usize,
     count: usize,
     directed: u8,
@@ -391,8 +384,7 @@ pub extern "C" fn dimetumble_floyd_warshall(
 }
 
 // The least totals between all pairs of nodes, by potentials.
-#[unsafe(no_mangle)]
-pub extern "C" fn dimetumble_johnson(
+pub fn dimetumble_johnson(
     bound: usize,
     count: usize,
     directed: u8,
@@ -443,8 +435,7 @@ pub extern "C" fn dimetumble_johnson(
 }
 
 // The nodes and the least numbers of arcs between all pairs of them, of an integer map.
-#[unsafe(no_mangle)]
-pub extern "C" fn dimetumble_hops(
+pub fn dimetumble_hops(
     bound: usize,
     count: usize,
     directed: u8,
@@ -489,8 +480,7 @@ pub extern "C" fn dimetumble_hops(
 }
 
 // The nodes and the least numbers of arcs between all pairs of them, of an f64 map.
-#[unsafe(no_mangle)]
-pub extern "C" fn dimetumble_hops_f64(
+pub fn dimetumble_hops_f64(
     bound: usize,
     count: usize,
     directed: u8,
@@ -538,8 +528,7 @@ pub extern "C" fn dimetumble_hops_f64(
 }
 
 // Are the distances of a page those that the arcs allow?
-#[unsafe(no_mangle)]
-pub extern "C" fn dimetumble_page(
+pub fn dimetumble_page(
     bound: usize,
     count: usize,
     directed: u8,
