@@ -71,6 +71,7 @@ NOT_REFUSED = [
     (BY_HAND % "add-result", 1, "refused at small::double, add-result"),
     (BY_HAND % "loop-smaller", 1, "refused at small::double, loop-smaller"),
     (SEARCHED % "`overflow_add-n`", 1, "refused at small::double, overflow_add-n"),
+    ((SEARCHED % "`overflow_add-n`").replace("logic", "note: `returns` of ./proofs/tell/Answers.antt must prove\nlogic"), 1, "refused at small::double, overflow_add-n"),
     (SEARCHED % "`overflow_add-n`; `returns` is proved", 1, "refused at small::double, overflow_add-n"),
     ((NAMED % "returns").replace("the two types differ", "record `x` has no field `args`"), 1, "refused at small::double, nothing that has a name"),
     ((NAMED % "returns").replace("the two types differ", "`args` is not a field of record `x`"), 1, "refused at small::double, nothing that has a name"),
