@@ -44,6 +44,7 @@ BREAKS = [
 NAMED = "./proofs/double/Answers.antt:1:1: error: `%s`: the two types differ\nfn small::double: not proved\nlogic=not-proved\n"
 BY_HAND = NAMED.replace("Answers", "Proof")
 SEARCHED = "fn small::double: no proof: expected answers in ./proofs/double/Answers.antt; `search` did not prove %s\nlogic=not-proved\n"
+LEFT = "note: src/%s:1: it is not proved that what the function ensures holds when it returns (`%s`); `search` gave up\nfn small::double: not proved\nlogic=not-proved\n"
 REFUSED = [
     (NAMED % "returns", 1, "refused at small::double, returns"),
     (NAMED % "returns-2", 1, "refused at small::double, returns-2"),
@@ -56,6 +57,8 @@ REFUSED = [
     (BY_HAND % "double_spec", 1, "refused at small::double, double_spec"),
     ((BY_HAND % "walk").replace("not proved\n", "not proved; the borrow checker does not cover this function yet\n", 1), 1, "refused at small::double, walk"),
     (SEARCHED % "`returns`", 1, "refused at small::double, returns"),
+    (LEFT % ("lib.rt:15", "returns-then-n"), 1, "refused at small::double, returns-then-n"),
+    (LEFT % ("lib.rt:20", "loop-i-preserved"), 1, "refused at small::double, loop-i-preserved"),
     (SEARCHED % "`overflow_add-n`, `returns-then-n`", 1, "refused at small::double, overflow_add-n, returns-then-n"),
 ]
 NOT_REFUSED = [
@@ -72,6 +75,10 @@ NOT_REFUSED = [
     (BY_HAND % "loop-smaller", 1, "refused at small::double, loop-smaller"),
     (SEARCHED % "`overflow_add-n`", 1, "refused at small::double, overflow_add-n"),
     ((SEARCHED % "`overflow_add-n`").replace("logic", "note: `returns` of ./proofs/tell/Answers.antt must prove\nlogic"), 1, "refused at small::double, overflow_add-n"),
+    (LEFT % ("lib.rt:14", "returns-then-n"), 1, "refused at small::double, nothing that has a name"),
+    (LEFT % ("lib.rt:21", "returns-then-n"), 1, "refused at small::double, nothing that has a name"),
+    (LEFT % ("other.rt:20", "returns-then-n"), 1, "refused at small::double, nothing that has a name"),
+    (LEFT % ("lib.rt:20", "overflow_add-n"), 1, "refused at small::double, overflow_add-n"),
     (SEARCHED % "`overflow_add-n`; `returns` is proved", 1, "refused at small::double, overflow_add-n"),
     ((NAMED % "returns").replace("the two types differ", "record `x` has no field `args`"), 1, "refused at small::double, nothing that has a name"),
     ((NAMED % "returns").replace("the two types differ", "`args` is not a field of record `x`"), 1, "refused at small::double, nothing that has a name"),
