@@ -17,7 +17,8 @@ use Rattle.float.specs.Cutoff.{past}
 use Rattle.float.specs.declared.Cutoff.{Cutoff}
 use Rattle.float.specs.declared.Cutoff.TheVariants.{None}
 use Rattle.table.specs.Links.{Link}
-use Rattle.table.specs.Lent.{FloatCost, Ints}
+use Rattle.table.specs.Lent.{Ints}
+use Rattle.table.specs.declared.FloatCost.{FloatCost}
 use Rattle.table.specs.Feeds.{ints, Feed}
 use Rattle.walks.specs.Walk.{Walk, Least, NegativeFrom, Negative}
 use Rattle.walks.specs.Pigeon.{NoDup}

@@ -19,7 +19,7 @@ use Rattle.float.proofs.Past.{past_limit}
 use Rattle.pending.proofs.Cutoff64.{same_cutoff64}
 use Rattle.float.specs.declared.Cutoff.{Cutoff}
 use Rattle.table.specs.Links.{Link, arcs}
-use Rattle.table.specs.Lent.{FloatCost}
+use Rattle.table.specs.declared.FloatCost.{FloatCost}
 use Rattle.table.proofs.Laws.{whole}
 use Rattle.net.specs.Net.{Net, links_of, OpenArcOf, most_arcs_of}
 use Rattle.net.proofs.Nodes.{has_below}

@@ -19,7 +19,7 @@ use Rattle.float.specs.Cutoff.{past}
 use Rattle.float.specs.declared.Cutoff.{Cutoff}
 use Rattle.float.specs.declared.Cutoff.TheVariants.{At}
 use Rattle.float.proofs.Cost.{plus_grows}
-use Rattle.table.specs.Lent.{FloatCost}
+use Rattle.table.specs.declared.FloatCost.{FloatCost}
 use Rattle.table.proofs.Laws as table
 use Rattle.net.specs.Net.{Net, OpenArcOf, whole_net, inside_net, has, nodes_of, width, most_arcs_of}
 use Rattle.net.proofs.Same.{open_has, open_below}

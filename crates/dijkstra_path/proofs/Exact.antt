@@ -19,7 +19,7 @@ use Rattle.float.specs.Cutoff.{past}
 use Rattle.float.specs.Whole.{bits_of}
 use Rattle.float.specs.declared.Cutoff.TheVariants.{None}
 use Rattle.float.proofs.Whole.{whole_good}
-use Rattle.table.specs.Lent.{FloatCost}
+use Rattle.table.specs.declared.FloatCost.{FloatCost}
 use Rattle.walks.specs.Pigeon.{In}
 use Rattle.walks.specs.Walk.{Total}
 use Rattle.walks.proofs.Over.{total_one}

@@ -6,7 +6,7 @@ use Prim.Native.Nat.{ℕ}
 use Rattle.whole.proofs.Cases.{and_left, and_right}
 use Rattle.numbers.proofs.Numbers.{◌then◌}
 use Rattle.numbers.proofs.Numbers as numbers
-use Rattle.table.specs.Lent.{FloatCost}
+use Rattle.table.specs.declared.FloatCost.{FloatCost}
 use Rattle.net.specs.Net.{Net, whole_net, inside_net, has, most_arcs_of}
 use Rattle.rows.specs.Scratch.{has_lists}
 use Rattle.rows.specs.Kept.{EnoughLists}

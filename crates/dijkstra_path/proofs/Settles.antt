@@ -21,7 +21,7 @@ use Rattle.float.specs.declared.Cutoff.{Cutoff}
 use Rattle.float.specs.declared.Cutoff.TheVariants.{None}
 use Rattle.float.specs.declared.Cutoff.TheVariants as Cut
 use Rattle.float.proofs.Past.{past_none, past_nan, past_infinity, past_minus}
-use Rattle.table.specs.Lent.{FloatCost}
+use Rattle.table.specs.declared.FloatCost.{FloatCost}
 use Rattle.net.specs.Net.{Net, OpenArcOf, SameNet}
 use Rattle.net.proofs.Same.{same_inside, same_size, same_open}
 use Rattle.rows.specs.Rows.{open_rows}

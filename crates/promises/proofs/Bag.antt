@@ -16,7 +16,7 @@ use Rattle.numbers.specs.Numbers as rows
 use Rattle.numbers.proofs.Numbers.{◌then◌, behind, follows_behind}
 use Rattle.float.specs.Cutoff.{past}
 use Rattle.float.specs.declared.Cutoff.{Cutoff}
-use Rattle.table.specs.Lent.{FloatCost}
+use Rattle.table.specs.declared.FloatCost.{FloatCost}
 use Rattle.net.specs.Net.{Net, ArcOf, inside_net, has}
 use Rattle.rows.specs.Rows.{rows_of, open_rows}
 use Rattle.pending.specs.Setting.{End}

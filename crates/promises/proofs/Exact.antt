@@ -24,7 +24,8 @@ use Rattle.clean.specs.Fill.{Settled}
 use Rattle.clean.specs.None.{none_i64, none_f64, shown}
 use Rattle.float.specs.declared.Cutoff.TheVariants.{None, At}
 use Rattle.table.specs.Links.{Link, Arc}
-use Rattle.table.specs.Lent.{FloatCost, float_cost}
+use Rattle.table.specs.Lent.{float_cost}
+use Rattle.table.specs.declared.FloatCost.{FloatCost}
 use Rattle.walks.specs.Walk.{Entry}
 use Rattle.walks.proofs.Over.{total_of}
 use Rattle.net.specs.Net.{Net, links_of, ArcOf, OpenArcOf, inside_net}

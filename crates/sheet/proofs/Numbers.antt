@@ -15,7 +15,7 @@ use lib.ListN.{get_or-replicate}
 use Rattle.whole.proofs.Cases.{clash, other, by_test, both_of}
 use Rattle.numbers.proofs.Numbers.{◌then◌, among}
 use Rattle.walks.specs.Pigeon.{In, here, there}
-use Rattle.table.specs.Lent.{FloatCost}
+use Rattle.table.specs.declared.FloatCost.{FloatCost}
 use Rattle.table.proofs.Laws.{whole, whole_of_no, all_of_no}
 use Rattle.net.specs.Net.{Net, whole_net, inside_net, most_arcs, most_arcs_of, width, has}
 use Rattle.net.proofs.Nodes.{width_most}

@@ -38,6 +38,13 @@ impl Map {
     }
 }
 
+// The cost of an f64 link as engines see it: its 64-bit pattern, and whether it is open.
+#[derive(Clone, Copy)]
+pub struct FloatCost {
+    pub bits: u64,
+    pub opened: bool,
+}
+
 // Does the map have the index i, which may be any number?
 #[tactic(auto, unfolding(crate::specs::Links::present))]
 pub fn is_present(bound: usize, marks: &[u8], i: usize) -> bool
