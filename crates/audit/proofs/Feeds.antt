@@ -11,7 +11,7 @@ use Prim.Native.Nat.{ℕ, ◌≤◌}
 use native.Mathlib.Omega.{arith}
 use lib.IntN.{ℤ}
 use lib.ListN.{length, take}
-use Rattle.float.specs.declared.Cutoff.{Cutoff}
+use Rattle.float.specs.Cutoff.{Cutoff}
 use Rattle.table.specs.Links.{Link, inside, lent_whole}
 use Rattle.table.specs.Lent.{RawCost, ints_no, floats_no, Ints, ints_now, put_ints, ints_put, Floats, floats_now, put_floats, floats_put}
 use Rattle.table.specs.declared.FloatCost.{FloatCost}

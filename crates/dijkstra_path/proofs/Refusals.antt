@@ -15,8 +15,8 @@ use Rattle.turns.specs.Firsts.{EnoughMemory}
 use Rattle.search.proofs.Lists.{has_memory_lem}
 use Rattle.dijkstra_path.specs.Promise.{Buffers, long_enough, enough, table, Promise}
 use Rattle.dijkstra_path.specs.Parts.{refusal_no}
-use Rattle.float.specs.declared.Cutoff.{Cutoff}
-use Rattle.float.specs.declared.Cutoff.TheVariants.{None}
+use Rattle.float.specs.Cutoff.{Cutoff}
+use Rattle.std.specs.Prelude.{None}
 
 module _ (g : Net FloatCost) (s : ℕ) (b : Buffers) where
   -- ---- the tests, one after the other

@@ -23,7 +23,7 @@ use Rattle.rows.specs.Scratch.{has_lists}
 use Rattle.search.specs.Lists.{has_memory}
 use Rattle.mapfile.specs.Load.{engine_may}
 use Rattle.mapfile.proofs.Loads.{loaded_bounded}
-use Rattle.float.specs.declared.Cutoff.{Cutoff}
+use Rattle.float.specs.Cutoff.{Cutoff}
 use Rattle.dijkstra.specs.Promise as dijkstra
 use Rattle.bellman_ford.specs.Promise as bellman
 use Rattle.a_star.specs.Promise as star
