@@ -8,8 +8,8 @@ pub record Keys (K : Type 0) : Type 1 where
   pub none : K
   pub word : K → ℕ → ℕ
 
--- what the words of a kind owe its pairs: none is 0, a key that is lowered has a larger one, and so has a smaller key; where neither key is smaller,
--- a pair whose word is no larger has an index that is no smaller, if that holds where the two words are one
+-- what the words of a kind owe its pairs: none is 0, a key that is lowered has a larger one, and so has a smaller key; where neither key is
+-- smaller, a pair whose word is no larger has an index that is no smaller, if that holds where the two words are one
 pub record RightWords {K : Type 0} (o : Keys K) : Type 0 where
   pub some : (k : K) (v : ℕ) → o.ok k → 0 < o.word k v
   pub grow : (j k : K) (v : ℕ) → o.ok j → o.ok k → o.lt j k ≡ false → o.word j v ≤ o.word k v
