@@ -19,3 +19,8 @@ no_of Room = 8
 abbrev pub number_of : {A : Type 0} → Result A Refusal → ℕ
 number_of (Ok _) = 0
 number_of (Err r) = no_of r
+
+-- how many there are after a call that gives their number, n before it
+abbrev pub count_after : ℕ → Result ℕ Refusal → ℕ
+count_after n (Ok k) = k
+count_after n (Err r) = n

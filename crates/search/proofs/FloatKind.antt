@@ -13,7 +13,7 @@ use Rattle.float.specs.Stored.{Stored}
 use Rattle.float.specs.Stored as stored
 use Rattle.float.specs.Cutoff.{past}
 use Rattle.float.specs.Better.{better_than, better_within}
-use Rattle.float.specs.declared.Cutoff.TheVariants.{At}
+use Rattle.std.specs.Prelude.{Some}
 use Rattle.bag.specs.Order.{pick}
 use Rattle.pending.specs.Literal.{better}
 use Rattle.turns.specs.Kind.{turn_of}
@@ -31,7 +31,7 @@ worth_is l n x = go (eqb x none_f64)
 
 pub better_at_lem : (l : Float) (n x : ℕ) → better_within l n x ≡ worth (kind64 l) n x
 unfolding better_within
-better_at_lem l n x = ap (λ (y : Bool). not (past (At l) n) && y) (worth_is l n x)
+better_at_lem l n x = ap (λ (y : Bool). not (past (Some l) n) && y) (worth_is l n x)
 
 -- ---- what they ask
 -- an entry that is blank or a distance

@@ -11,7 +11,7 @@ use lib.Ieee.{Float}
 use Rattle.clean.specs.None.{none_f64}
 use Rattle.float.specs.Dist.{Dist64, plus64}
 use Rattle.float.specs.Cutoff.{past}
-use Rattle.float.specs.declared.Cutoff.TheVariants.{At}
+use Rattle.std.specs.Prelude.{Some}
 use Rattle.float.proofs.Cost.{zero_dist, plus_dist, plus_grows}
 use Rattle.float.proofs.BitOrder.{lt64_asym}
 use Rattle.float.proofs.None.{dist_not_none, none_itself}
@@ -42,7 +42,7 @@ read_none = ap (λ (b : Bool). pick b none (some none_f64)) none_itself
 
 lawful : (l : Float) → Lawful (kind64 l) Dist64
 lawful l = record {
-  laws = laws64 (past (At l)) none 0;
+  laws = laws64 (past (Some l)) none 0;
   good_ok = λ d p. p;
   good_zero = zero_dist;
   good_plus = plus_dist;
@@ -54,14 +54,14 @@ lawful l = record {
 -- ---- the course
 module _ (l : Float) (m : ℕ) (target : Option ℕ) (source : ℕ) (nb : Lists ℕ) where
   abbrev setting : Setting ℕ ℕ
-  setting = search64 (past (At l)) target source
+  setting = search64 (past (Some l)) target source
 
   abbrev its_laws : Laws setting Dist64
-  its_laws = laws64 (past (At l)) target source
+  its_laws = laws64 (past (Some l)) target source
 
   -- no index was taken twice, after so many takes
   abbrev pub Keeps64 : (ℕ → Cell ℕ) → ℕ → Type 0
-  Keeps64 = Once (search64 (past (At l)) target source) (laws64 (past (At l)) target source) (λ d v. refl) plus_grows (RowArc m nb)
+  Keeps64 = Once (search64 (past (Some l)) target source) (laws64 (past (Some l)) target source) (λ d v. refl) plus_grows (RowArc m nb)
 
   -- so there were at most m
   few : {s : ℕ → Cell ℕ} {t : ℕ} → Keeps64 s t → Within (upto m) s → t ≤ m
