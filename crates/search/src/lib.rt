@@ -6,6 +6,7 @@ ghost use Rattle.std.specs.Prelude.{◌≡◌, false, ◌⊎◌, ◌≤◌, ◌<
 ghost use Rattle.std.proofs.Math.Option.{none};
 ghost use Rattle.clean.specs.None.{none_u32};
 ghost use Rattle.clean.specs.Fill.{filled};
+ghost use Rattle.numbers.specs.declared.Refusal.TheVariants.{BadCost as Bad};
 ghost use Rattle.rows.specs.Rows.{lists_of};
 ghost use Rattle.rows.specs.RowArc.{RowArc};
 ghost use Rattle.turns.specs.Kind.{Kind, ordered};
@@ -21,6 +22,7 @@ ghost use Rattle.search.specs.Runs.{Cheap, ToAll};
 ghost use Rattle.search.specs.Lists.{has_memory, wiped_with};
 
 use bag::Key;
+use numbers::Refusal;
 
 mod floats;
 mod ints;
@@ -32,6 +34,15 @@ pub use ints::Guided;
 #[derive(Clone, Copy, Debug, PartialEq, Eq)]
 pub struct BadCost {
     pub takes: usize,
+}
+
+// As a refusal it is 6.
+impl From<BadCost> for Refusal {
+    ghost from_gives = { λ _ e. e ≡ Bad };
+
+    fn from(_bad: BadCost) -> Refusal {
+        Refusal::BadCost
+    }
 }
 
 // The rule of a search.
