@@ -9,6 +9,7 @@ ghost use Rattle.bag.specs.Content.{content_of, IsLeast};
 ghost use Rattle.clean.specs.Fill.{filled};
 ghost use Rattle.clean.specs.None.{none_u32};
 ghost use Rattle.rows.specs.Rows.{lists_in};
+ghost use Rattle.numbers.specs.declared.Refusal.TheVariants.{BadCost as Bad};
 ghost use Rattle.rows.specs.RowArc.{RowArc};
 ghost use Rattle.turns.specs.Kind.{Kind, ordered};
 ghost use Rattle.turns.specs.Asks.{Asks, InRange, RowInRange};
@@ -23,6 +24,7 @@ ghost use Rattle.search.specs.Runs.{Cheap, ToAll};
 ghost use Rattle.search.specs.Lists.{has_memory, wiped_with, memory_in, SameMemory};
 
 use bag::Key;
+use numbers::Refusal;
 use rows::Lists;
 
 mod floats;
@@ -35,6 +37,15 @@ pub use ints::Guided;
 #[derive(Clone, Copy, Debug, PartialEq, Eq)]
 pub struct BadCost {
     pub takes: usize,
+}
+
+// As a refusal it is 6.
+impl From<BadCost> for Refusal {
+    ghost from_gives = { λ _ e. e ≡ Bad };
+
+    fn from(_bad: BadCost) -> Refusal {
+        Refusal::BadCost
+    }
 }
 
 // The rule of a search.
