@@ -25,13 +25,10 @@ either : (x : Bool) {y : Bool} → y ≡ true → (x || y) ≡ true
 either true e = refl
 either false e = e
 
-pub nothing_below : (l : List ℤ) (first step : ℕ) → any_below l first step 0 ≡ false
+pub none_is : (l : List ℤ) (first step n : ℕ) → ((i : ℕ) → i < n → lt_z (get_or l (first + i * step) (pos 0)) (pos 0) ≡ false) → any_below l first step n ≡ false
 unfolding any_below
-nothing_below l first step = refl
-
-pub below_more : (l : List ℤ) (first step n : ℕ) → any_below l first step n ≡ false → lt_z (get_or l (first + n * step) (pos 0)) (pos 0) ≡ false → any_below l first step (n + 1) ≡ false
-unfolding any_below
-below_more l first step n e f = ap (any_below l first step) (add-one n) ∙ rw (e, f)
+none_is l first step zero f = refl
+none_is l first step (suc n) f = rw (none_is l first step n (λ i h. f i (omega arith)), f n (omega arith))
 
 pub none_below : (l : List ℤ) (first step n : ℕ) → any_below l first step n ≡ false → (i : ℕ) → i < n → pos 0 ≤ℤ get_or l (first + i * step) (pos 0)
 unfolding any_below

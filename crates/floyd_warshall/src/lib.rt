@@ -25,49 +25,29 @@ const BLOCK: usize = 16;
 // The same near the end of a row, and one by one where fewer are left.
 const SMALL: usize = 4;
 
-// What stands there, or the sum where that is smaller.
-fn shorter(old: i64, a: i64, b: i64) -> i64
-    requires { (Within (2 ^ 60) a) × (Within (2 ^ 60) b) }
-    ensures { result ≡ lesser old (a ⊕ b) }
-{
-    let s = a + b;
-    if s < old { s } else { old }
-}
-
 // Is one of n entries below zero, which stand first, first + step, ..?
 fn any_below(cells: &[i64], first: usize, step: usize, n: usize) -> bool
     requires { Strided first step n cells.now }
     ensures { result ≡ any_below cells.now first step n }
 {
-    let mut i: usize = 0;
-    while i < n {
-        if whole::lower(cells[first + i * step], 0) {
-            return true;
-        }
-        i += 1;
-    }
-    false
+    (0..n).any(|i| cells[first + i * step] < 0)
 }
 
 // Can a row change whose entry in column k is a? Not if there is no walk to k, unless row k has an entry below zero.
+#[tactic(auto, unfolding(crate::specs::Rounds::reaching))]
 fn reaches(falls: bool, a: i64) -> bool
     ensures { result ≡ reaching falls a }
 {
-    if falls {
-        return true;
-    }
-    a < FAR
+    falls || a < FAR
 }
 
-// The n entries from one place on, each lowered to the sum of a and the entry as far from the other, where that is smaller.
-fn lower_block(cells: &mut [i64], at: usize, by: usize, a: i64, n: usize)
-    requires { Block at by a n cells.old }
-    ensures { cells.new ≡ block at by a n cells.old }
+// The N entries from one place on, each lowered to the sum of a and the entry as far from the other, where that is smaller.
+fn lower_block<const N: usize>(cells: &mut [i64], at: usize, by: usize, a: i64)
+    requires { Block at by a N cells.old }
+    ensures { cells.new ≡ block at by a N cells.old }
 {
-    let mut x: usize = 0;
-    while x < n {
-        cells[at + x] = shorter(cells[at + x], a, cells[by + x]);
-        x += 1;
+    for x in 0..N {
+        cells[at + x] = cells[at + x].min(a + cells[by + x]);
     }
 }
 
@@ -77,47 +57,45 @@ fn lower_next(cells: &mut [i64], at: usize, by: usize, a: i64, left: usize) -> u
     ensures { (0 < result) × (result ≤ left) × (cells.new ≡ block at by a result cells.old) }
 {
     if left < SMALL {
-        lower_block(cells, at, by, a, 1);
-        return 1;
+        lower_block::<1>(cells, at, by, a);
+        1
+    } else if left < BLOCK {
+        lower_block::<SMALL>(cells, at, by, a);
+        SMALL
+    } else {
+        lower_block::<BLOCK>(cells, at, by, a);
+        BLOCK
     }
-    if left < BLOCK {
-        lower_block(cells, at, by, a, SMALL);
-        return SMALL;
-    }
-    lower_block(cells, at, by, a, BLOCK);
-    BLOCK
 }
 
 // The rounds. The columns go by blocks, and a test follows each: the first diagonal entry below zero ends all three loops. No sum overflows
 // until then, nor in the rest of that block, which is made of entries from before the round.
+#[tactic(auto, using(matrix::proofs::Matrix::place_in))]
 fn rounds(cells: &mut [i64], p: usize) -> bool
     requires { Begun p cells.old }
     ensures { Rounded p cells.old cells.new result }
 {
-    let mut below = false;
-    let mut k: usize = 0;
-    'rounds: while k < p {
+    for k in 0..p {
         let through = k * p;
         let falls = any_below(cells, through, 1, p);
-        let mut i: usize = 0;
-        'rows: while i < p {
+        for i in 0..p {
             let row = i * p;
             let a = cells[row + k];
             if reaches(falls, a) {
-                let mut j: usize = 0;
-                'columns: while j < p {
+                let mut j = 0;
+
+                // No counting loop: each block tells how many columns it was.
+                while j < p {
                     j += lower_next(cells, row + j, through + j, a, p - j);
-                    if whole::lower(cells[row + i], 0) {
-                        below = true;
-                        break 'rounds;
+                    let diagonal = cells[row + i];
+                    if diagonal < 0 {
+                        return true;
                     }
                 }
             }
-            i += 1;
         }
-        k += 1;
     }
-    below
+    false
 }
 
 // The large number 2^50 in the first n entries.
@@ -125,10 +103,8 @@ fn fill_far(cells: &mut [i64], n: usize)
     requires { n ≤ length cells.old }
     ensures { cells.new ≡ filled n (pos (2 ^ 50)) cells.old }
 {
-    let mut i: usize = 0;
-    while i < n {
+    for i in 0..n {
         cells[i] = FAR;
-        i += 1;
     }
 }
 
@@ -138,19 +114,9 @@ fn start(cells: &mut [i64], p: usize)
     ensures { Started p cells.new }
 {
     fill_far(cells, p * p);
-    let mut i: usize = 0;
-    while i < p {
+    for i in 0..p {
         cells[i * p + i] = 0;
-        i += 1;
     }
-}
-
-// What stands there, or the cost where that is smaller.
-fn cheaper(old: i64, cost: i32) -> i64
-    ensures { result ≡ lesser old cost }
-{
-    let c = cost as i64;
-    if c < old { c } else { old }
 }
 
 // The arcs of one link between two rows.
@@ -158,13 +124,13 @@ fn put_link(directed: bool, p: usize, cells: &mut [i64], i: usize, j: usize, cos
     requires { Square p cells.old × (i < p) × (j < p) }
     ensures { cells.new ≡ linked directed p cells.old i j cost }
 {
+    let cost = i64::from(cost);
     let x = i * p + j;
-    cells[x] = cheaper(cells[x], cost);
-    if directed {
-        return;
+    cells[x] = cells[x].min(cost);
+    if !directed {
+        let y = j * p + i;
+        cells[y] = cells[y].min(cost);
     }
-    let y = j * p + i;
-    cells[y] = cheaper(cells[y], cost);
 }
 
 // The arcs of every link.
@@ -186,14 +152,10 @@ fn fill(
         × (cells.new ≡ poured map.directed p ranks.now
         (links map.count from.now to.now costs.now) cells.old) }
 {
-    let directed = map.directed;
-    let n = map.count;
-    let mut e: usize = 0;
-    while e < n {
-        let a = from[e] as usize;
-        let b = to[e] as usize;
-        put_link(directed, p, cells, ranks[a], ranks[b], costs[e]);
-        e += 1;
+    for e in 0..map.count {
+        let a = usize::from(from[e]);
+        let b = usize::from(to[e]);
+        put_link(map.directed, p, cells, ranks[a], ranks[b], costs[e]);
     }
 }
 
@@ -208,10 +170,8 @@ fn shown_of(z: i64) -> i64
 fn show(cells: &mut [i64])
     ensures { MatrixShown cells.old cells.new }
 {
-    let mut x: usize = 0;
-    while x < cells.len() {
-        cells[x] = shown_of(cells[x]);
-        x += 1;
+    for cell in cells.iter_mut() {
+        *cell = shown_of(*cell);
     }
 }
 
@@ -236,10 +196,7 @@ fn solve(
 {
     start(cells, p);
     fill(map, marks, from, to, costs, ranks, p, cells);
-    if any_below(cells, 0, p + 1, p) {
-        return true;
-    }
-    if rounds(cells, p) {
+    if any_below(cells, 0, p + 1, p) || rounds(cells, p) {
         return true;
     }
     show(cells);
