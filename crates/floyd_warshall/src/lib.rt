@@ -1,23 +1,22 @@
 // `floyd_warshall`: the least totals between all pairs of a lent map. What it promises is in specs/Promise.antt.
 #![tactic(auto)]
 
-ghost use Rattle.std.specs.Prelude.{true, false, ◌≡◌, ℕ, ◌+◌, ◌*◌, ◌≤◌, ◌<◌, ◌^◌, pos, length, get_or};
-ghost use Rattle.whole.specs.Zed.{◌⊕◌, Within};
+ghost use Rattle.std.specs.Prelude.{◌≡◌, ◌≤◌, ◌<◌, ◌^◌, pos, length};
 ghost use Rattle.clean.specs.Fill.{filled};
 ghost use Rattle.table.specs.Links.{links};
 ghost use Rattle.net.specs.Net.{net_of, width};
 ghost use Rattle.floyd_warshall.specs.Promise.{Promise};
-ghost use Rattle.floyd_warshall.specs.Rounds.{lesser, block, Block, reaching, any_below, Strided, Begun, Rounded};
+ghost use Rattle.floyd_warshall.specs.Rounds.{block, Block, reaching, any_below, Strided, Begun, Rounded};
 ghost use Rattle.floyd_warshall.specs.Filling.{Square, Started, Sound, Ranked, linked, poured};
 ghost use Rattle.floyd_warshall.specs.Filling.{Costs32Below, shown, MatrixShown, Solved, refusal_no};
 
 use table::Map;
 
 // What stands for "no walk" in the rounds: 2^50, far from every total.
-const FAR: i64 = 1125899906842624;
+const FAR: i64 = 1 << 50;
 
 // Entries from 2^49 on are no totals. A sum with the large number may lie below it, but never so low.
-const NO_TOTAL: i64 = 562949953421312;
+const NO_TOTAL: i64 = 1 << 49;
 
 // How many columns are lowered between two tests of the diagonal: so few that they are compiled without a loop.
 const BLOCK: usize = 16;
@@ -160,6 +159,7 @@ fn fill(
 }
 
 // An entry as it is shown: none where there is no walk.
+#[tactic(auto, unfolding(crate::specs::Filling::shown))]
 fn shown_of(z: i64) -> i64
     ensures { result ≡ shown z }
 {
@@ -217,20 +217,17 @@ fn refusal(
         (net_of map.bound map.count map.directed marks.now from.now to.now costs.now)
         matrix.now ranks.now }
 {
-    if !net::whole(map, marks, from, to, costs) {
-        return 1;
-    }
-    if ranks.len() < map.bound {
+    if !net::whole(map, marks, from, to, costs) || ranks.len() < map.bound {
         return 1;
     }
     let p = net::count_present(map.bound, marks);
     if matrix.len() < p * p {
-        return 1;
+        1
+    } else if net::inside(map, marks, from, to, costs) {
+        0
+    } else {
+        2
     }
-    if !net::inside(map, marks, from, to, costs) {
-        return 2;
-    }
-    0
 }
 
 // The least totals between all pairs of nodes. 1 where a lent slice is too short or a limit is passed,
