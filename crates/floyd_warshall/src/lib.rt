@@ -1,16 +1,17 @@
 // `floyd_warshall`: the least totals between all pairs of a lent map. What it promises is in specs/Promise.antt.
 #![tactic(auto)]
 
-ghost use Rattle.std.specs.Prelude.{◌≡◌, ◌≤◌, ◌<◌, ◌^◌, pos, length};
-ghost use Rattle.clean.specs.Fill.{filled};
+ghost use Rattle.std.specs.Prelude.{◌≡◌, ◌≤◌, ◌<◌, ◌^◌, pos, length, IfOk};
 ghost use Rattle.table.specs.Links.{links};
-ghost use Rattle.net.specs.Net.{net_of, width};
+ghost use Rattle.numbers.specs.Refusal.{number_of};
+ghost use Rattle.net.specs.Net.{int_net, width};
 ghost use Rattle.floyd_warshall.specs.Promise.{Promise};
 ghost use Rattle.floyd_warshall.specs.Rounds.{block, Block, reaching, any_below, Strided, Begun, Rounded};
 ghost use Rattle.floyd_warshall.specs.Filling.{Square, Started, Sound, Ranked, linked, poured};
 ghost use Rattle.floyd_warshall.specs.Filling.{Costs32Below, shown, MatrixShown, Solved, refusal_no};
 
-use table::Map;
+use net::{Ints, Lent};
+use numbers::Refusal;
 
 // What stands for "no walk" in the rounds: 2^50, far from every total.
 const FAR: i64 = 1 << 50;
@@ -97,22 +98,12 @@ fn rounds(cells: &mut [i64], p: usize) -> bool
     false
 }
 
-// The large number 2^50 in the first n entries.
-fn fill_far(cells: &mut [i64], n: usize)
-    requires { n ≤ length cells.old }
-    ensures { cells.new ≡ filled n (pos (2 ^ 50)) cells.old }
-{
-    for i in 0..n {
-        cells[i] = FAR;
-    }
-}
-
 // No arcs yet: the large number for each pair, but 0 on the diagonal.
 fn start(cells: &mut [i64], p: usize)
     requires { Square p cells.old }
     ensures { Started p cells.new }
 {
-    fill_far(cells, p * p);
+    clean::fill(cells, p * p, FAR);
     for i in 0..p {
         cells[i * p + i] = 0;
     }
@@ -133,28 +124,17 @@ fn put_link(directed: bool, p: usize, cells: &mut [i64], i: usize, j: usize, cos
 }
 
 // The arcs of every link.
-fn fill(
-    map: Map,
-    marks: &[u8],
-    from: &[u16],
-    to: &[u16],
-    costs: &[i32],
-    ranks: &[usize],
-    p: usize,
-    cells: &mut [i64],
-)
-    requires { Sound (net_of map.bound map.count map.directed marks.now from.now to.now costs.now)
-        × Ranked (net_of map.bound map.count map.directed marks.now from.now to.now costs.now) ranks.now
-        × (p ≡ width (net_of map.bound map.count map.directed marks.now from.now to.now costs.now))
-        × Square p cells.old }
-    ensures { Costs32Below costs.now map.count
-        × (cells.new ≡ poured map.directed p ranks.now
-        (links map.count from.now to.now costs.now) cells.old) }
+fn fill(net: Lent<Ints>, ranks: &[usize], p: usize, cells: &mut [i64])
+    requires { Sound (int_net net) × Ranked (int_net net) ranks.now × (p ≡ width (int_net net)) × Square p cells.old }
+    ensures { Costs32Below net.entry.costs.costs.now net.entry.map.count
+        × (cells.new ≡ poured net.entry.map.directed p ranks.now
+        (links net.entry.map.count net.entry.from.now net.entry.to.now net.entry.costs.costs.now) cells.old) }
 {
-    for e in 0..map.count {
-        let a = usize::from(from[e]);
-        let b = usize::from(to[e]);
-        put_link(map.directed, p, cells, ranks[a], ranks[b], costs[e]);
+    for e in 0..net.map.count {
+        let a = usize::from(net.from[e]);
+        let b = usize::from(net.to[e]);
+        let cost = net.costs.costs[e];
+        put_link(net.map.directed, p, cells, ranks[a], ranks[b], cost);
     }
 }
 
@@ -176,26 +156,12 @@ fn show(cells: &mut [i64])
 }
 
 // The answer to a sound map, in a matrix of just the entries used: is there a closed walk below zero?
-fn solve(
-    map: Map,
-    marks: &[u8],
-    from: &[u16],
-    to: &[u16],
-    costs: &[i32],
-    ranks: &[usize],
-    p: usize,
-    cells: &mut [i64],
-) -> bool
-    requires { Sound (net_of map.bound map.count map.directed marks.now from.now to.now costs.now)
-        × Ranked (net_of map.bound map.count map.directed marks.now from.now to.now costs.now) ranks.now
-        × (p ≡ width (net_of map.bound map.count map.directed marks.now from.now to.now costs.now))
-        × Square p cells.old }
-    ensures { Solved
-        (net_of map.bound map.count map.directed marks.now from.now to.now costs.now) result
-        cells.new }
+fn solve(net: Lent<Ints>, ranks: &[usize], p: usize, cells: &mut [i64]) -> bool
+    requires { Sound (int_net net) × Ranked (int_net net) ranks.now × (p ≡ width (int_net net)) × Square p cells.old }
+    ensures { Solved (int_net net.entry) result cells.new }
 {
     start(cells, p);
-    fill(map, marks, from, to, costs, ranks, p, cells);
+    fill(net, ranks, p, cells);
     if any_below(cells, 0, p + 1, p) || rounds(cells, p) {
         return true;
     }
@@ -203,61 +169,42 @@ fn solve(
     false
 }
 
-// 1 where a limit is passed or a lent slice is too short, 2 where a link names an index that the map has not, else 0.
-fn refusal(
-    map: Map,
-    marks: &[u8],
-    from: &[u16],
-    to: &[u16],
-    costs: &[i32],
-    matrix: &[i64],
-    ranks: &[usize],
-) -> usize
-    ensures { result ≡ refusal_no
-        (net_of map.bound map.count map.directed marks.now from.now to.now costs.now)
-        matrix.now ranks.now }
+// How many nodes the map has, unless a limit is passed, a lent slice is too short, or a link names an index that the map has not.
+fn width_of(net: Lent<Ints>, matrix: &[i64], ranks: &[usize]) -> Result<usize, Refusal>
+    ensures number { number_of result ≡ refusal_no (int_net net.entry) matrix.now ranks.now }
+    ensures counted { IfOk result (λ p. p ≡ width (int_net net.entry)) }
 {
-    if !net::whole(map, marks, from, to, costs) || ranks.len() < map.bound {
-        return 1;
+    if !net.whole() || ranks.len() < net.map.bound {
+        return Err(Refusal::Limit);
     }
-    let p = net::count_present(map.bound, marks);
+    let p = net::count_present(net.map.bound, net.marks);
     if matrix.len() < p * p {
-        1
-    } else if net::inside(map, marks, from, to, costs) {
-        0
+        Err(Refusal::Limit)
+    } else if net.inside() {
+        Ok(p)
     } else {
-        2
+        Err(Refusal::Index)
     }
 }
 
-// The least totals between all pairs of nodes. 1 where a lent slice is too short or a limit is passed,
-// 2 where a link names an index that the map has not, 7 where a closed walk totals below zero, else 0.
+// The least totals between all pairs of nodes. Limit where a lent slice is too short or a limit is passed, Index where a link names
+// an index that the map has not, Negative where a closed walk totals below zero.
 pub fn floyd_warshall(
-    map: Map,
-    marks: &[u8],
-    from: &[u16],
-    to: &[u16],
-    costs: &[i32],
+    net: Lent<Ints>,
     matrix: &mut [i64],
     ranks: &mut [usize],
-) -> usize
-    ensures { Promise
-        (net_of map.bound map.count map.directed marks.now from.now to.now costs.now)
-        matrix.old ranks.old matrix.new ranks.new result }
+) -> Result<(), Refusal>
+    ensures { Promise (int_net net.entry) matrix.old ranks.old matrix.new ranks.new (number_of result) }
 {
-    let refused = refusal(map, marks, from, to, costs, matrix, ranks);
-    if refused != 0 {
-        return refused;
-    }
-    let m = map.bound;
-    let p = net::count_present(m, marks);
+    let p = width_of(net, matrix, ranks)?;
+    let m = net.map.bound;
     let used = p * p;
-    net::set_ranks(m, marks, ranks);
-    let negative = solve(map, marks, from, to, costs, ranks, p, &mut matrix[..used]);
-    clean::clear_usize(ranks, m);
+    net::set_ranks(m, net.marks, ranks);
+    let negative = solve(net, ranks, p, &mut matrix[..used]);
+    clean::fill(ranks, m, 0);
     if negative {
-        clean::blank_i64(matrix, used);
-        return 7;
+        clean::fill(matrix, used, clean::NONE_I64);
+        return Err(Refusal::Negative);
     }
-    0
+    Ok(())
 }

@@ -6,4 +6,4 @@ use Rattle.floyd_warshall.proofs.Stores.{Pouring}
 use Rattle.floyd_warshall.proofs.fill.Given as goal
 
 abbrev pub invariant-loop-e : goal.invariant-loop-e
-invariant-loop-e l = Pouring l.map.directed l.p l.ranks l.map.count l.from l.to l.costs l.initial.cells l.e l.cells
+invariant-loop-e l = Pouring l.net.map.directed l.p l.ranks l.net.map.count l.net.from.now l.net.to.now l.net.costs.costs.now l.initial.cells l.e l.cells

@@ -14,8 +14,7 @@ module _ (f : After-fill) where
   abbrev cells : List ℤ
   cells = f.fill.new.cells
 
-  prepared : Prepared start.args.map.bound start.args.map.count start.args.map.directed start.args.marks.now start.args.from.now start.args.to.now
-      start.args.costs.now start.args.ranks.now start.requires.0 start.requires.1 f.fill.ensures.0 start.args.p cells
+  prepared : Prepared _ _ _ _ _ _ start.args.net.costs.costs.now start.args.ranks.now start.requires.0 start.requires.1 f.fill.ensures.0 start.args.p cells
   prepared = record { first = f.start.new.cells; started = f.start.ensures; is = f.fill.ensures.1 }
 
 pub rounds-requires : goal.rounds-requires
