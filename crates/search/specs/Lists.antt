@@ -1,8 +1,19 @@
 -- The lists that a search is lent: are they long enough, and what wiping leaves in them.
 -- Assumes nothing.
-use Rattle.std.specs.Prelude.{Bool, ◌&&◌, ℕ, leb, ℤ, pos, length}
+use Rattle.std.specs.Prelude.{◌≡◌, Bool, ◌&&◌, ℕ, leb, ℤ, pos, length}
 use Rattle.clean.specs.Fill.{filled}
 use Rattle.turns.specs.Memory.{Memory, memory_of}
+use Rattle.search.specs.declared.Memory as code
+
+-- what is in the slices of the struct of the code, and that the same slices are lent
+abbrev pub memory_in : {K : Type 0} → code.Memory K → Memory K
+memory_in m = memory_of m.dist.now m.preds.now m.peaks.now m.words.now m.keys.now
+
+abbrev pub SameMemory : {K : Type 0} → code.Memory K → code.Memory K → Type 0
+SameMemory m k =
+    (k.dist.ghost_name ≡ m.dist.ghost_name) × (k.preds.ghost_name ≡ m.preds.ghost_name)
+    × (k.peaks.ghost_name ≡ m.peaks.ghost_name) × (k.words.ghost_name ≡ m.words.ghost_name)
+    × (k.keys.ghost_name ≡ m.keys.ghost_name)
 
 -- do the lists of the search have m entries each?
 unfoldable pub has_memory : {K : Type 0} → ℕ → Memory K → Bool

@@ -4,25 +4,24 @@
 
 ghost use Rattle.std.specs.Prelude.{◌≡◌, false, ◌⊎◌, ◌≤◌, ◌<◌, length, get_or, MatchOption};
 ghost use Rattle.std.proofs.Math.Option.{none};
-ghost use Rattle.clean.specs.None.{none_u32};
-ghost use Rattle.clean.specs.Fill.{filled};
 ghost use Rattle.numbers.specs.declared.Refusal.TheVariants.{BadCost as Bad};
-ghost use Rattle.rows.specs.Rows.{lists_of};
+ghost use Rattle.rows.specs.Rows.{lists_of, lists_in};
 ghost use Rattle.rows.specs.RowArc.{RowArc};
 ghost use Rattle.turns.specs.Kind.{Kind, ordered};
 ghost use Rattle.turns.specs.Asks.{Asks, InRange, RowInRange};
 ghost use Rattle.turns.specs.Memory.{memory_of, Fresh};
 ghost use Rattle.turns.specs.Row.{worth, Safe, Looked, Opens, BadArc, RowDone};
 ghost use Rattle.turns.specs.Searched.{Started, Searched};
-ghost use Rattle.turns.specs.Firsts.{EnoughMemory, KeptMemory, Ran};
+ghost use Rattle.turns.specs.Firsts.{EnoughMemory, KeptMemory, Cleared, Ran};
 ghost use Rattle.turns.proofs.Right.{Way, Right};
 ghost use Rattle.search.specs.Target.{target_in};
 ghost use Rattle.search.specs.Found.{number_of, takes_of};
 ghost use Rattle.search.specs.Runs.{Cheap, ToAll};
-ghost use Rattle.search.specs.Lists.{has_memory, wiped_with};
+ghost use Rattle.search.specs.Lists.{memory_in, SameMemory, has_memory, wiped_with};
 
 use bag::Key;
 use numbers::Refusal;
+use rows::Lists;
 
 mod floats;
 mod ints;
@@ -42,6 +41,56 @@ impl From<BadCost> for Refusal {
 
     fn from(_bad: BadCost) -> Refusal {
         Refusal::BadCost
+    }
+}
+
+// What a search writes, for each index: its distance and its predecessor, and its place and its key in the pending bag.
+#[derive(Drop)]
+pub struct Memory<'a, K> {
+    pub dist: &'a mut [K],
+    pub preds: &'a mut [u32],
+    pub peaks: &'a mut [usize],
+    pub words: &'a mut [usize],
+    pub keys: &'a mut [K],
+}
+
+impl<'a, K: Copy> Memory<'a, K> {
+    // Has each list m entries?
+    #[tactic(auto, unfolding(crate::specs::Lists::has_memory))]
+    pub fn long_enough(&self, m: usize) -> bool
+        ensures { result ≡ has_memory m (memory_in self.now) }
+    {
+        m <= self.dist.len()
+            && m <= self.preds.len()
+            && m <= self.peaks.len()
+            && m <= self.words.len()
+            && m <= self.keys.len()
+    }
+
+    // Nothing has a distance and nothing is pending, in the first m entries.
+    fn clear(&mut self, m: usize, none: K)
+        requires { EnoughMemory m (memory_in self.old) }
+        ensures cleared { Cleared none m (memory_in self.old) (memory_in self.new) }
+        ensures enough { EnoughMemory m (memory_in self.new) }
+        ensures same { SameMemory self.old self.new }
+    {
+        clean::fill(self.dist, m, none);
+        clean::fill(self.preds, m, clean::NONE_U32);
+        clean::fill(self.peaks, m, 0);
+        clean::fill(self.words, m, 0);
+    }
+
+    // Zero in the first m entries of each list.
+    pub fn wipe(&mut self, m: usize, zero: K)
+        requires { EnoughMemory m (memory_in self.old) }
+        ensures wiped { memory_in self.new ≡ wiped_with zero m (memory_in self.old) }
+        ensures same { SameMemory self.old self.new }
+    {
+        clean::fill(self.dist, m, zero);
+        clean::fill(self.preds, m, 0);
+        clean::fill(self.peaks, m, 0);
+        clean::fill(self.words, m, 0);
+        clean::fill(self.keys, m, zero);
     }
 }
 
@@ -241,25 +290,6 @@ fn search<R: Rule>(
     Ok(takes)
 }
 
-// Nothing has a distance and nothing is pending, in the first m entries.
-fn clear<K: Copy>(
-    m: usize,
-    blank: K,
-    dist: &mut [K],
-    preds: &mut [u32],
-    peaks: &mut [usize],
-    words: &mut [usize],
-)
-    requires { (m ≤ length dist.old) × (m ≤ length preds.old) × (m ≤ length peaks.old) × (m ≤ length words.old) }
-    ensures { (dist.new ≡ filled m blank dist.old) × (preds.new ≡ filled m none_u32 preds.old)
-        × (peaks.new ≡ filled m 0 peaks.old) × (words.new ≡ filled m 0 words.old) }
-{
-    clean::fill(dist, m, blank);
-    clean::fill(preds, m, clean::NONE_U32);
-    clean::fill(peaks, m, 0);
-    clean::fill(words, m, 0);
-}
-
 // The search on the first m entries of each list, whatever they hold, to a target if one is given that is below m. Gives how many pairs
 // were taken and not dropped.
 pub fn run<R: Rule>(
@@ -267,37 +297,30 @@ pub fn run<R: Rule>(
     m: usize,
     source: usize,
     target: Option<usize>,
-    offsets: &[usize],
-    heads: &[u16],
-    weights: &[R::Cost],
-    dist: &mut [R::Key],
-    preds: &mut [u32],
-    peaks: &mut [usize],
-    words: &mut [usize],
-    keys: &mut [R::Key],
+    lists: &Lists<R::Cost>,
+    memory: &mut Memory<R::Key>,
 ) -> Result<usize, BadCost>
-    requires fit { (R.asks rule).fit m source target (lists_of offsets.now heads.now weights.now) }
-    requires enough_memory { EnoughMemory m (memory_of dist.old preds.old peaks.old words.old keys.old) }
-    ensures { Ran (ordered R.Key.kind (R.kind rule)) m (target_in m target) source
-        (lists_of offsets.now heads.now weights.now)
-        (memory_of dist.old preds.old peaks.old words.old keys.old)
-        (memory_of dist.new preds.new peaks.new words.new keys.new)
+    requires fit { (R.asks rule).fit m source target (lists_in lists.now) }
+    requires enough_memory { EnoughMemory m (memory_in memory.old) }
+    ensures ran { Ran (ordered R.Key.kind (R.kind rule)) m (target_in m target) source
+        (lists_in lists.now) (memory_in memory.old) (memory_in memory.new)
         (number_of result) (takes_of result) }
+    ensures same { SameMemory memory.old memory.new }
 {
-    clear(m, rule.none(), dist, preds, peaks, words);
+    memory.clear(m, rule.none());
     search(
         rule,
         m,
         source,
         target,
-        offsets,
-        heads,
-        weights,
-        &mut dist[..m],
-        &mut preds[..m],
-        &mut peaks[..m],
-        &mut words[..m],
-        &mut keys[..m],
+        lists.offsets,
+        lists.heads,
+        lists.weights,
+        &mut memory.dist[..m],
+        &mut memory.preds[..m],
+        &mut memory.peaks[..m],
+        &mut memory.words[..m],
+        &mut memory.keys[..m],
     )
 }
 
@@ -305,64 +328,16 @@ pub fn run<R: Rule>(
 pub fn to_all(
     m: usize,
     source: usize,
-    offsets: &[usize],
-    heads: &[u16],
-    weights: &[i64],
-    dist: &mut [i64],
-    preds: &mut [u32],
-    peaks: &mut [usize],
-    words: &mut [usize],
-    keys: &mut [i64],
+    lists: &Lists<i64>,
+    memory: &mut Memory<i64>,
 ) -> Result<usize, BadCost>
-    requires cheap { Cheap m (lists_of offsets.now heads.now weights.now) }
-    requires source_lt_m { (source < m) × EnoughMemory m (memory_of dist.old preds.old peaks.old words.old keys.old) }
-    ensures to_all { ToAll
-        (RowArc m (lists_of offsets.now heads.now weights.now)) m source dist.old
-        dist.new (number_of result) }
-    ensures kept_memory { KeptMemory m
-        (memory_of dist.old preds.old peaks.old words.old keys.old)
-        (memory_of dist.new preds.new peaks.new words.new keys.new) }
+    requires cheap { Cheap m (lists_in lists.now) }
+    requires source_lt_m { (source < m) × EnoughMemory m (memory_in memory.old) }
+    ensures to_all { ToAll (RowArc m (lists_in lists.now)) m source memory.old.dist.now
+        memory.new.dist.now (number_of result) }
+    ensures kept_memory { KeptMemory m (memory_in memory.old) (memory_in memory.new) }
+    ensures same { SameMemory memory.old memory.new }
 {
     let rule = Guided { guess: &[0] };
-    run(
-        rule, m, source, None, offsets, heads, weights, dist, preds, peaks, words, keys,
-    )
-}
-
-// Do the lists of the search have m entries each?
-#[tactic(auto, unfolding(crate::specs::Lists::has_memory))]
-pub fn has_memory<K>(
-    m: usize,
-    dist: &[K],
-    preds: &[u32],
-    peaks: &[usize],
-    words: &[usize],
-    keys: &[K],
-) -> bool
-    ensures { result ≡ has_memory m
-        (memory_of dist.now preds.now peaks.now words.now keys.now) }
-{
-    m <= dist.len() && m <= preds.len() && m <= peaks.len() && m <= words.len() && m <= keys.len()
-}
-
-// Zero, which is x among the distances and keys, in the first m entries of each list of the search.
-pub fn wipe_memory<K: Copy>(
-    m: usize,
-    x: K,
-    dist: &mut [K],
-    preds: &mut [u32],
-    peaks: &mut [usize],
-    words: &mut [usize],
-    keys: &mut [K],
-)
-    requires { EnoughMemory m (memory_of dist.old preds.old peaks.old words.old keys.old) }
-    ensures { memory_of dist.new preds.new peaks.new words.new keys.new
-        ≡ wiped_with x m
-        (memory_of dist.old preds.old peaks.old words.old keys.old) }
-{
-    clean::fill(dist, m, x);
-    clean::fill(preds, m, 0);
-    clean::fill(peaks, m, 0);
-    clean::fill(words, m, 0);
-    clean::fill(keys, m, x);
+    run(rule, m, source, None, lists, memory)
 }

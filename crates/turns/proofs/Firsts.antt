@@ -15,7 +15,7 @@ use Rattle.rows.proofs.Kept.{kept_none, kept_more, kept_filled}
 use Rattle.turns.specs.Kind.{Kind}
 use Rattle.turns.specs.Memory.{Memory, memory_of, Fresh}
 use Rattle.turns.specs.Searched.{Searched}
-use Rattle.turns.specs.Firsts.{firsts, EnoughMemory, KeptMemory, Ran}
+use Rattle.turns.specs.Firsts.{firsts, EnoughMemory, KeptMemory, Cleared, Ran}
 
 -- the part that was filled
 filled_first : {X : Type 0} (m : ℕ) (x : X) (l k : List X) → k ≡ filled m x l → take m k ≡ replicate m x
@@ -59,45 +59,44 @@ pub record Parts {K : Type 0} (m : ℕ) (M : Memory K) : Type 0 where
   pub keys : m ≡ length (take m M.keys)
 
 -- ---- the first entries, cleared and searched
-module _ {K C : Type 0} (Y : Kind K C) {m : ℕ} {M : Memory K} (w : EnoughMemory m M) {d : List K} {p h i : List ℕ}
-    (e : (d ≡ filled m Y.blank M.dist) × (p ≡ filled m none_u32 M.preds) × (h ≡ filled m 0 M.peaks) × (i ≡ filled m 0 M.words)) where
-  cleared : KeptMemory m M (memory_of d p h i M.keys)
+module _ {K C : Type 0} (Y : Kind K C) {m : ℕ} {M M₁ : Memory K} (w : EnoughMemory m M) (e : Cleared Y.blank m M M₁) where
+  cleared : KeptMemory m M M₁
   cleared = record {
-    dist = kept_filled Y.blank w.dist e.0;
-    preds = kept_filled none_u32 w.preds e.1;
-    peaks = kept_filled 0 w.peaks e.2;
-    words = kept_filled 0 w.words e.3;
-    keys = kept_none;
+    dist = kept_filled Y.blank w.dist e.dist;
+    preds = kept_filled none_u32 w.preds e.preds;
+    peaks = kept_filled 0 w.peaks e.peaks;
+    words = kept_filled 0 w.words e.words;
+    keys = subst (Kept m M.keys) (sym e.keys) kept_none;
   }
 
-  roomy : EnoughMemory m (memory_of d p h i M.keys)
+  roomy : EnoughMemory m M₁
   roomy = memory_enough w cleared
 
-  pub parts : Parts m (memory_of d p h i M.keys)
+  pub parts : Parts m M₁
   parts = record {
-    dist = sym (length-take-le m d roomy.dist);
-    preds = sym (length-take-le m p roomy.preds);
-    peaks = sym (length-take-le m h roomy.peaks);
-    words = sym (length-take-le m i roomy.words);
-    keys = sym (length-take-le m M.keys w.keys);
+    dist = sym (length-take-le m M₁.dist roomy.dist);
+    preds = sym (length-take-le m M₁.preds roomy.preds);
+    peaks = sym (length-take-le m M₁.peaks roomy.peaks);
+    words = sym (length-take-le m M₁.words roomy.words);
+    keys = sym (length-take-le m M₁.keys roomy.keys);
   }
 
   -- nothing has a distance, nothing is pending
-  pub fresh : m ≤ 1024 → Fresh Y m (firsts m (memory_of d p h i M.keys))
+  pub fresh : m ≤ 1024 → Fresh Y m (firsts m M₁)
   fresh few = record {
     few = few;
-    dist = filled_first m Y.blank M.dist d e.0;
-    preds = filled_first m none_u32 M.preds p e.1;
-    peaks = filled_first m 0 M.peaks h e.2;
-    words = filled_first m 0 M.words i e.3;
-    keys = length-take-le m M.keys w.keys;
+    dist = filled_first m Y.blank M.dist M₁.dist e.dist;
+    preds = filled_first m none_u32 M.preds M₁.preds e.preds;
+    peaks = filled_first m 0 M.peaks M₁.peaks e.peaks;
+    words = filled_first m 0 M.words M₁.words e.words;
+    keys = length-take-le m M₁.keys roomy.keys;
   }
 
   -- a part that was searched stands before the rest
-  module _ (d' : List K) (p' h' i' : List ℕ) (k' : List K) (ld : length d' ≡ length (take m d)) (lp : length p' ≡ length (take m p)) (lh : length h' ≡ length (take m h))
-      (li : length i' ≡ length (take m i)) (lk : length k' ≡ length (take m M.keys)) where
+  module _ (d' : List K) (p' h' i' : List ℕ) (k' : List K) (ld : length d' ≡ length (take m M₁.dist)) (lp : length p' ≡ length (take m M₁.preds))
+      (lh : length h' ≡ length (take m M₁.peaks)) (li : length i' ≡ length (take m M₁.words)) (lk : length k' ≡ length (take m M₁.keys)) where
     abbrev after : Memory K
-    after = memory_of (d' ++ drop m d) (p' ++ drop m p) (h' ++ drop m h) (i' ++ drop m i) (k' ++ drop m M.keys)
+    after = memory_of (d' ++ drop m M₁.dist) (p' ++ drop m M₁.preds) (h' ++ drop m M₁.peaks) (i' ++ drop m M₁.words) (k' ++ drop m M₁.keys)
 
     nd : length d' ≡ m
     nd = ld ∙ sym parts.dist
@@ -115,17 +114,21 @@ module _ {K C : Type 0} (Y : Kind K C) {m : ℕ} {M : Memory K} (w : EnoughMemor
     nk = lk ∙ sym parts.keys
 
     first_is : memory_of d' p' h' i' k' ≡ firsts m after
-    first_is = sym (λ j. memory_of (take_at d' (drop m d) m nd j) (take_at p' (drop m p) m np j) (take_at h' (drop m h) m nh j) (take_at i' (drop m i) m ni j) (take_at k' (drop m M.keys) m nk j))
+    first_is =
+        sym (λ j. memory_of (take_at d' (drop m M₁.dist) m nd j) (take_at p' (drop m M₁.preds) m np j) (take_at h' (drop m M₁.peaks) m nh j)
+        (take_at i' (drop m M₁.words) m ni j) (take_at k' (drop m M₁.keys) m nk j))
 
-    back : KeptMemory m (memory_of d p h i M.keys) after
+    back : KeptMemory m M₁ after
     back = record {
-      dist = kept_first d' d roomy.dist nd;
-      preds = kept_first p' p roomy.preds np;
-      peaks = kept_first h' h roomy.peaks nh;
-      words = kept_first i' i roomy.words ni;
-      keys = kept_first k' M.keys w.keys nk;
+      dist = kept_first d' M₁.dist roomy.dist nd;
+      preds = kept_first p' M₁.preds roomy.preds np;
+      peaks = kept_first h' M₁.peaks roomy.peaks nh;
+      words = kept_first i' M₁.words roomy.words ni;
+      keys = kept_first k' M₁.keys roomy.keys nk;
     }
 
     -- the search is over
-    pub ran : {target : Option ℕ} {source number takes : ℕ} {nb : Lists C} → Searched Y m target source nb (memory_of d' p' h' i' k') number takes → Ran Y m target source nb M after number takes
-    ran {target} {source} {number} {takes} {nb} z = record { searched = subst (λ (x : Memory K). Searched Y m target source nb x number takes) first_is z; kept = memory_more cleared back }
+    pub ran : {target : Option ℕ} {source number takes : ℕ} {nb : Lists C} → Searched Y m target source nb (memory_of d' p' h' i' k') number takes
+        → Ran Y m target source nb M after number takes
+    ran {target} {source} {number} {takes} {nb} z =
+        record { searched = subst (λ (x : Memory K). Searched Y m target source nb x number takes) first_is z; kept = memory_more cleared back }
