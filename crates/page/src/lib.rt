@@ -18,13 +18,14 @@ pub struct Checked {
 }
 
 // The largest distance that a page may hold.
-const TOP: i64 = 4398046511104;
+const TOP: i64 = 1 << 42;
 
 // The least.
-const LOW: i64 = -4398046511104;
+const LOW: i64 = -TOP;
 
 // 1 where a limit is passed or a lent slice is too short,
 // 2 where a link names an index that the map has not, 3 where the source is none, else 0.
+#[tactic(auto, unfolding(crate::specs::Parts::refusal_no))]
 fn refusal(
     map: Map,
     marks: &[u8],
@@ -38,41 +39,29 @@ fn refusal(
         (net_of map.bound map.count map.directed marks.now from.now to.now costs.now)
         source page.now }
 {
-    if !net::whole(map, marks, from, to, costs) {
-        return 1;
+    if !net::whole(map, marks, from, to, costs) || page.len() < map.bound {
+        1
+    } else if !net::inside(map, marks, from, to, costs) {
+        2
+    } else if !net::has_index(map.bound, marks, source) {
+        3
+    } else {
+        0
     }
-    if page.len() < map.bound {
-        return 1;
-    }
-    if !net::inside(map, marks, from, to, costs) {
-        return 2;
-    }
-    if !net::has_index(map.bound, marks, source) {
-        return 3;
-    }
-    0
 }
 
-// Has the index a distance?
-fn has_distance(page: &[i64], v: usize) -> bool
-    requires { v < length page.now }
-    ensures { Tells (Known page.now v) (entry page.now v ≡ none_i64) result }
+// Is the entry a distance, and not none?
+fn is_distance(entry: i64) -> bool
+    ensures { Tells (entry ≡ none_i64 → ⊥) (entry ≡ none_i64) result }
 {
-    page[v] != clean::NONE_I64
+    entry != clean::NONE_I64
 }
 
-// Is the index's entry none, or in the range that distances have?
-fn in_range(page: &[i64], v: usize) -> bool
-    requires { v < length page.now }
-    ensures { Decides (InRange (entry page.now v)) result }
+// Is the entry none, or in the range that distances have?
+fn in_range(entry: i64) -> bool
+    ensures { Decides (InRange entry) result }
 {
-    if !has_distance(page, v) {
-        return true;
-    }
-    if whole::lower(page[v], LOW) {
-        return false;
-    }
-    !whole::lower(TOP, page[v])
+    !is_distance(entry) || (LOW..=TOP).contains(&entry)
 }
 
 // Is each of the first m entries none, or in the range?
@@ -80,14 +69,7 @@ fn all_in_range(m: usize, page: &[i64]) -> bool
     requires { m ≤ length page.now }
     ensures { Decides (Ranged m page.now) result }
 {
-    let mut v: usize = 0;
-    while v < m {
-        if !in_range(page, v) {
-            return false;
-        }
-        v += 1;
-    }
-    true
+    page[..m].iter().all(|entry| in_range(*entry))
 }
 
 // Does an arc from u to v hold? Marks v where the arc meets it exactly.
@@ -95,21 +77,17 @@ fn arc_holds(page: &[i64], met: &mut [u8], u: usize, v: usize, cost: i32) -> boo
     requires { CanLook page.now met.old u v }
     ensures { ArcChecked page.now u v cost met.old met.new result }
 {
-    if !has_distance(page, u) {
+    if !is_distance(page[u]) {
         return true;
     }
-    if !has_distance(page, v) {
+    if !is_distance(page[v]) {
         return false;
     }
-    let next = whole::plus(page[u], whole::widen(cost));
-    if whole::lower(next, page[v]) {
-        return false;
+    let next = page[u] + i64::from(cost);
+    if page[v] == next {
+        met[v] = 1;
     }
-    if whole::lower(page[v], next) {
-        return true;
-    }
-    met[v] = 1;
-    true
+    page[v] <= next
 }
 
 // Do the arcs of the link i hold: one if directed, else one each way?
@@ -127,15 +105,9 @@ fn link_holds(
     ensures { Step map.directed map.bound map.count from.now to.now costs.now i
         page.now met.new result }
 {
-    let a = from[i] as usize;
-    let b = to[i] as usize;
-    if !arc_holds(page, met, a, b, costs[i]) {
-        return false;
-    }
-    if map.directed {
-        return true;
-    }
-    arc_holds(page, met, b, a, costs[i])
+    let a = usize::from(from[i]);
+    let b = usize::from(to[i]);
+    arc_holds(page, met, a, b, costs[i]) && (map.directed || arc_holds(page, met, b, a, costs[i]))
 }
 
 // Does every arc hold? The marks are then those of the indices that some arc meets exactly.
@@ -151,29 +123,12 @@ fn arcs_hold(
     ensures { Scanned map.directed map.count from.now to.now costs.now page.now
         met.new result }
 {
-    let n = map.count;
-    let mut i: usize = 0;
-    while i < n {
+    for i in 0..map.count {
         if !link_holds(map, from, to, costs, page, met, i) {
             return false;
         }
-        i += 1;
     }
     true
-}
-
-// Is the index the source, or without a distance, or marked?
-fn is_met(source: usize, page: &[i64], met: &[u8], v: usize) -> bool
-    requires { (v < length page.now) × (v < length met.now) }
-    ensures { Decides (MarkedWhereKnown source page.now met.now v) result }
-{
-    if v == source {
-        return true;
-    }
-    if !has_distance(page, v) {
-        return true;
-    }
-    met[v] != 0
 }
 
 // Is each of the first m indices the source, or without a distance, or marked?
@@ -181,14 +136,7 @@ fn all_met(m: usize, source: usize, page: &[i64], met: &[u8]) -> bool
     requires { (m ≤ length page.now) × (m ≤ length met.now) }
     ensures { Decides ((v : ℕ) → v < m → MarkedWhereKnown source page.now met.now v) result }
 {
-    let mut v: usize = 0;
-    while v < m {
-        if !is_met(source, page, met, v) {
-            return false;
-        }
-        v += 1;
-    }
-    true
+    (0..m).all(|v| v == source || !is_distance(page[v]) || met[v] != 0)
 }
 
 // Is the page right? The marks are all zero at first.
@@ -208,16 +156,10 @@ fn judge(
         page.now) result }
 {
     let m = map.bound;
-    if page[source] != 0 {
-        return false;
-    }
-    if !all_in_range(m, page) {
-        return false;
-    }
-    if !arcs_hold(map, from, to, costs, page, met) {
-        return false;
-    }
-    all_met(m, source, page, met)
+    page[source] == 0
+        && all_in_range(m, page)
+        && arcs_hold(map, from, to, costs, page, met)
+        && all_met(m, source, page, met)
 }
 
 // The page check: yes or no in m + links steps, with nothing lent written. The promise is in specs/Promise.antt.
@@ -241,10 +183,7 @@ pub fn check(
             yes: false,
         };
     }
-    let mut met: [u8; Map::INDICES] = [0; Map::INDICES];
+    let mut met = [0u8; Map::INDICES];
     let yes = judge(map, from, to, costs, source, page, &mut met);
-    Checked {
-        number: 0,
-        yes: yes,
-    }
+    Checked { number: 0, yes }
 }
