@@ -4,7 +4,6 @@ use mathlib.Core.Path.{◌≡◌, refl, ap, ◌∙◌}
 use mathlib.Core.Bool.{Bool}
 use mathlib.Core.List.{List}
 use Prim.Native.Nat.{ℕ, ◌+◌, ◌≤◌}
-use native.Mathlib.Omega.{arith}
 use lib.IntN.{ℤ}
 use lib.ListN.{length}
 use Rattle.numbers.specs.Numbers.{here, past}
@@ -19,22 +18,13 @@ use Rattle.net.proofs.Bounds.{whole_ints, whole_floats}
 use Rattle.rows.specs.Rows.{Ready}
 use Rattle.rows.proofs.Maps.{ready_ints, ready_floats}
 use Rattle.hops.specs.Promise.{Buffers, buffers_of, result_of, Promise}
-use Rattle.hops.specs.Parts.{refusal_no, net_ends, Ripe, Solved, EnoughScratch, Wiped, Answered}
+use Rattle.hops.specs.Parts.{refusal_no, net_ends, Ripe, Solved, Wiped, Answered}
 use Rattle.hops.proofs.Refusals.{passed, passed_whole, passed_inside, passed_fits}
 use Rattle.hops.proofs.Settles.{SameEnds, ends_back, inside_over, matrix_over}
 
 -- ---- the scratch after the search, and cleared
 module _ {m n : ℕ} {d : Bool} {marks xs ys : List ℕ} {b : Buffers} (r : Ripe m n d marks xs ys b) {a : ℕ} (is : a ≡ most_arcs_of (net_ends m n d marks xs ys)) {b₁ : Buffers} {p : ℕ}
     (v : Solved (net_ends m n d marks xs ys) b b₁ p) where
-  pub room_after : EnoughScratch m a b₁.offsets b₁.heads b₁.labels b₁.queue
-  room_after = record {
-    bounded = r.ready.indices;
-    offsets = omega (arith, r.fits.offsets, v.long_o);
-    heads = omega (arith, is, r.fits.heads, v.long_h);
-    labels = omega (arith, r.fits.labels, v.long_l);
-    queue = omega (arith, r.fits.queue, v.long_q);
-  }
-
   module _ {o h l q : List ℕ} (w : Wiped m a b₁.offsets b₁.heads b₁.labels b₁.queue o h l q) where
     offsets_done : o ≡ filled (m + 1) 0 b.offsets
     offsets_done = w.offsets ∙ filled_same (m + 1) 0 b₁.offsets b.offsets v.offsets

@@ -17,10 +17,7 @@ use table::Map;
 fn label_of(had: usize, next: usize) -> usize
     ensures { result ≡ label_of had next }
 {
-    if had == 0 {
-        return next;
-    }
-    had
+    if had == 0 { next } else { had }
 }
 
 // How many stand in the queue after an index was looked at.
@@ -28,10 +25,7 @@ fn size_after(had: usize, size: usize) -> usize
     requires { size ≤ 1024 }
     ensures { result ≡ size_after had size }
 {
-    if had == 0 {
-        return size + 1;
-    }
-    size
+    if had == 0 { size + 1 } else { size }
 }
 
 // Look at the index v: one not seen yet gets the label and goes to the end of the queue. Gives how many stand there.
@@ -66,13 +60,9 @@ fn expand(
         labels.new queue.new result }
 {
     let next = labels[u] + 1;
-    let end = offsets[u + 1];
-    let mut size: usize = waiting;
-    let mut i: usize = offsets[u];
-    while i < end {
-        let v = heads[i] as usize;
-        size = meet(v, next, size, labels, queue);
-        i += 1;
+    let mut size = waiting;
+    for i in offsets[u]..offsets[u + 1] {
+        size = meet(usize::from(heads[i]), next, size, labels, queue);
     }
     size
 }
@@ -92,8 +82,9 @@ fn search(
         (RowLeads m offsets.now heads.now) labels.old queue.old labels.new
         queue.new }
 {
-    let mut size: usize = meet(source, 1, 0, labels, queue);
-    let mut head: usize = 0;
+    let mut size = meet(source, 1, 0, labels, queue);
+    let mut head = 0;
+    // A worklist: the queue grows in each turn, so a `for` does not know its end.
     while head < size && size < m {
         let u = queue[head];
         size = expand(m, source, u, head, size, offsets, heads, labels, queue);
@@ -107,9 +98,10 @@ fn shown(label: usize) -> u32
     ensures { result ≡ shown_of label }
 {
     if label == 0 {
-        return clean::NONE_U32;
+        clean::NONE_U32
+    } else {
+        (label - 1) as u32
     }
-    (label - 1) as u32
 }
 
 // Write the row of the matrix that starts at a place, from the labels of the nodes.
@@ -117,11 +109,8 @@ fn show_row(p: usize, at: usize, nodes: &[u32], labels: &[usize], matrix: &mut [
     requires { CanShow p at nodes.now labels.now matrix.old }
     ensures { RowShown p at nodes.now labels.now matrix.old matrix.new }
 {
-    let mut j: usize = 0;
-    while j < p {
-        let v = nodes[j] as usize;
-        matrix[at + j] = shown(labels[v]);
-        j += 1;
+    for (j, v) in nodes[..p].iter().enumerate() {
+        matrix[at + j] = shown(labels[*v as usize]);
     }
 }
 
@@ -150,7 +139,7 @@ fn make_row(
 }
 
 // Make every row, in the order of the nodes.
-#[tactic(auto, using(matrix::proofs::Matrix::row_in, matrix::proofs::Matrix::square_small))]
+#[tactic(auto, using(matrix::proofs::Matrix::row_in))]
 fn fill(
     m: usize,
     p: usize,
@@ -167,9 +156,8 @@ fn fill(
         (RowLeads m offsets.now heads.now) nodes.now labels.old queue.old
         matrix.old labels.new queue.new matrix.new }
 {
-    let mut i: usize = 0;
-    while i < p {
-        let source = nodes[i] as usize;
+    for (i, node) in nodes[..p].iter().enumerate() {
+        let source = *node as usize;
         make_row(
             m,
             p,
@@ -182,7 +170,6 @@ fn fill(
             queue,
             matrix,
         );
-        i += 1;
     }
 }
 
@@ -265,6 +252,7 @@ fn answer(
 }
 
 // Is each buffer as long as its part used?
+#[tactic(auto, unfolding(crate::specs::Promise::long_enough))]
 fn long_enough(
     map: Map,
     marks: &[u8],
@@ -284,28 +272,16 @@ fn long_enough(
     let m = map.bound;
     let a = net::most_arcs(map.directed, map.count);
     let p = net::count_present(m, marks);
-    if nodes.len() < p {
-        return false;
-    }
-    if matrix.len() < p * p {
-        return false;
-    }
-    if offsets.len() < m + 1 {
-        return false;
-    }
-    if heads.len() < a {
-        return false;
-    }
-    if labels.len() < m {
-        return false;
-    }
-    if queue.len() < m + 1 {
-        return false;
-    }
-    true
+    p <= nodes.len()
+        && p * p <= matrix.len()
+        && m + 1 <= offsets.len()
+        && a <= heads.len()
+        && m <= labels.len()
+        && m + 1 <= queue.len()
 }
 
 // 1 where a limit is passed or a lent slice is too short, 2 where a link names an index that the map has not, else 0: for an integer map.
+#[tactic(auto, unfolding(crate::specs::Parts::refusal_no))]
 fn refusal(
     map: Map,
     marks: &[u8],
@@ -325,19 +301,19 @@ fn refusal(
         queue.now in
         result ≡ refusal_no net lent }
 {
-    if !net::whole(map, marks, from, to, costs) {
-        return 1;
+    if !net::whole(map, marks, from, to, costs)
+        || !long_enough(map, marks, nodes, matrix, offsets, heads, labels, queue)
+    {
+        1
+    } else if !net::inside(map, marks, from, to, costs) {
+        2
+    } else {
+        0
     }
-    if !long_enough(map, marks, nodes, matrix, offsets, heads, labels, queue) {
-        return 1;
-    }
-    if !net::inside(map, marks, from, to, costs) {
-        return 2;
-    }
-    0
 }
 
 // 1 where a limit is passed or a lent slice is too short, 2 where a link names an index that the map has not, else 0: for an f64 map.
+#[tactic(auto, unfolding(crate::specs::Parts::refusal_no))]
 fn refusal_f64(
     map: Map,
     marks: &[u8],
@@ -358,16 +334,15 @@ fn refusal_f64(
         queue.now in
         result ≡ refusal_no net lent }
 {
-    if !net::whole_f64(map, marks, from, to, bits, opens) {
-        return 1;
+    if !net::whole_f64(map, marks, from, to, bits, opens)
+        || !long_enough(map, marks, nodes, matrix, offsets, heads, labels, queue)
+    {
+        1
+    } else if !net::inside_f64(map, marks, from, to, bits, opens) {
+        2
+    } else {
+        0
     }
-    if !long_enough(map, marks, nodes, matrix, offsets, heads, labels, queue) {
-        return 1;
-    }
-    if !net::inside_f64(map, marks, from, to, bits, opens) {
-        return 2;
-    }
-    0
 }
 
 // The number of the answer, and p: how many nodes are listed, 0 after a refusal.
