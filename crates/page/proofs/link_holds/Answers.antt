@@ -10,7 +10,8 @@ use Rattle.page.proofs.link_holds.Goals as goal
 pub returns-then-map : goal.returns-then-map
 returns-then-map c =
     let f : FitsSigned w32 (get_or c.args.costs.now c.args.i (pos 0)) = search rules in
-    subst (Tells _ _) (sym c.if-map.true) (says_yes (link_one c.requires.0 c.requires.1 (to_z-of_z w32 _ f) (rw (c.from-a.ensures, c.from-b.ensures) at c.arc_holds.ensures) c.if-arc_holds.true c.if-map.true))
+    subst (Tells _ _) (sym c.if-map.true)
+    (says_yes (link_one c.requires.0 c.requires.1 (to_z-of_z w32 _ f) (rw (c.from-a.ensures, c.from-b.ensures) at c.arc_holds.ensures) c.if-arc_holds.true c.if-map.true))
 
 pub returns-else-map : goal.returns-else-map
 returns-else-map c =
@@ -21,4 +22,5 @@ returns-else-map c =
 pub returns-else-arc_holds : goal.returns-else-arc_holds
 returns-else-arc_holds c =
     let f : FitsSigned w32 (get_or c.args.costs.now c.args.i (pos 0)) = search rules in
-    subst (Tells _ _) (sym c.if-arc_holds.false) (says_no (link_off c.requires.0 c.requires.1 (to_z-of_z w32 _ f) (rw (c.from-a.ensures, c.from-b.ensures) at c.arc_holds.ensures) c.if-arc_holds.false))
+    subst (Tells _ _) (sym c.if-arc_holds.false)
+    (says_no (link_off c.requires.0 c.requires.1 (to_z-of_z w32 _ f) (rw (c.from-a.ensures, c.from-b.ensures) at c.arc_holds.ensures) c.if-arc_holds.false))
