@@ -2,20 +2,16 @@
 #![tactic(auto)]
 
 ghost use Rattle.std.specs.Prelude.{◌≡◌, ℕ, ◌≤◌, ◌<◌, length};
+ghost use Rattle.numbers.specs.Refusal.{number_of};
 ghost use Rattle.clean.specs.None.{none_i64};
-ghost use Rattle.table.specs.Links.{links, Arc};
-ghost use Rattle.net.specs.Net.{net_of};
-ghost use Rattle.page.specs.Promise.{entry, Known, InRange, Ranged, Right, answer_of, Promise};
-ghost use Rattle.page.specs.Parts.{refusal_no, Tells, Decides, MarkedWhereKnown, CanLook, ArcChecked, Upto, Step, Scanned, Ripe};
+ghost use Rattle.net.specs.Net.{int_net, ArcOf};
+ghost use Rattle.page.specs.Promise.{entry, Known, InRange, Ranged, Right, answer_in, Promise};
+ghost use Rattle.page.specs.Parts.{refusal_no, Tells, Decides, MarkedWhereKnown, CanLook, ArcChecked};
+ghost use Rattle.page.specs.Parts.{UptoIn, StepIn, ScannedIn, RipeIn};
 
+use net::{Ints, Lent};
+use numbers::Refusal;
 use table::Map;
-
-// What the check answers: its number, and yes or no.
-#[derive(Clone, Copy)]
-pub struct Checked {
-    pub number: usize,
-    pub yes: bool,
-}
 
 // The largest distance that a page may hold.
 const TOP: i64 = 1 << 42;
@@ -23,31 +19,21 @@ const TOP: i64 = 1 << 42;
 // The least.
 const LOW: i64 = -TOP;
 
-// 1 where a limit is passed or a lent slice is too short,
-// 2 where a link names an index that the map has not, 3 where the source is none, else 0.
+// The refusals: Limit where a limit is passed or a lent slice is too short, then Index, then Source.
 #[tactic(auto, unfolding(crate::specs::Parts::refusal_no))]
-fn refusal(
-    map: Map,
-    marks: &[u8],
-    from: &[u16],
-    to: &[u16],
-    costs: &[i32],
-    source: usize,
-    page: &[i64],
-) -> usize
-    ensures { result ≡ refusal_no
-        (net_of map.bound map.count map.directed marks.now from.now to.now costs.now)
-        source page.now }
+fn refusal(net: Lent<Ints>, source: usize, page: &[i64]) -> Result<(), Refusal>
+    ensures { number_of result ≡ refusal_no (int_net net.entry) source page.now }
 {
-    if !net::whole(map, marks, from, to, costs) || page.len() < map.bound {
-        1
-    } else if !net::inside(map, marks, from, to, costs) {
-        2
-    } else if !net::has_index(map.bound, marks, source) {
-        3
-    } else {
-        0
+    if !net.whole() || page.len() < net.map.bound {
+        return Err(Refusal::Limit);
     }
+    if !net.inside() {
+        return Err(Refusal::Index);
+    }
+    if !net.has(source) {
+        return Err(Refusal::Source);
+    }
+    Ok(())
 }
 
 // Is the entry a distance, and not none?
@@ -91,40 +77,23 @@ fn arc_holds(page: &[i64], met: &mut [u8], u: usize, v: usize, cost: i32) -> boo
 }
 
 // Do the arcs of the link i hold: one if directed, else one each way?
-fn link_holds(
-    map: Map,
-    from: &[u16],
-    to: &[u16],
-    costs: &[i32],
-    page: &[i64],
-    met: &mut [u8],
-    i: usize,
-) -> bool
-    requires { (i < map.count)
-        × Upto map.directed map.bound map.count from.now to.now costs.now i page.now met.old }
-    ensures { Step map.directed map.bound map.count from.now to.now costs.now i
-        page.now met.new result }
+fn link_holds(net: Lent<Ints>, page: &[i64], met: &mut [u8], i: usize) -> bool
+    requires { (i < net.map.count) × UptoIn net i page.now met.old }
+    ensures { StepIn net.entry i page.now met.new result }
 {
-    let a = usize::from(from[i]);
-    let b = usize::from(to[i]);
-    arc_holds(page, met, a, b, costs[i]) && (map.directed || arc_holds(page, met, b, a, costs[i]))
+    let a = usize::from(net.from[i]);
+    let b = usize::from(net.to[i]);
+    let cost = net.costs.costs[i];
+    arc_holds(page, met, a, b, cost) && (net.map.directed || arc_holds(page, met, b, a, cost))
 }
 
 // Does every arc hold? The marks are then those of the indices that some arc meets exactly.
-fn arcs_hold(
-    map: Map,
-    from: &[u16],
-    to: &[u16],
-    costs: &[i32],
-    page: &[i64],
-    met: &mut [u8],
-) -> bool
-    requires { Upto map.directed map.bound map.count from.now to.now costs.now 0 page.now met.old }
-    ensures { Scanned map.directed map.count from.now to.now costs.now page.now
-        met.new result }
+fn arcs_hold(net: Lent<Ints>, page: &[i64], met: &mut [u8]) -> bool
+    requires { UptoIn net 0 page.now met.old }
+    ensures { ScannedIn net.entry page.now met.new result }
 {
-    for i in 0..map.count {
-        if !link_holds(map, from, to, costs, page, met, i) {
+    for i in 0..net.map.count {
+        if !link_holds(net, page, met, i) {
             return false;
         }
     }
@@ -140,50 +109,22 @@ fn all_met(m: usize, source: usize, page: &[i64], met: &[u8]) -> bool
 }
 
 // Is the page right? The marks are all zero at first.
-fn judge(
-    map: Map,
-    from: &[u16],
-    to: &[u16],
-    costs: &[i32],
-    source: usize,
-    page: &[i64],
-    met: &mut [u8],
-) -> bool
-    requires { Ripe map.bound map.count from.now to.now costs.now source page.now met.old }
-    ensures { Decides
-        (Right
-        (Arc map.directed (links map.count from.now to.now costs.now)) map.bound source
-        page.now) result }
+fn judge(net: Lent<Ints>, source: usize, page: &[i64], met: &mut [u8]) -> bool
+    requires { RipeIn net source page.now met.old }
+    ensures { Decides (Right (ArcOf (int_net net.entry)) net.entry.map.bound source page.now) result }
 {
-    let m = map.bound;
+    let m = net.map.bound;
     page[source] == 0
         && all_in_range(m, page)
-        && arcs_hold(map, from, to, costs, page, met)
+        && arcs_hold(net, page, met)
         && all_met(m, source, page, met)
 }
 
 // The page check: yes or no in m + links steps, with nothing lent written. The promise is in specs/Promise.antt.
-pub fn check(
-    map: Map,
-    marks: &[u8],
-    from: &[u16],
-    to: &[u16],
-    costs: &[i32],
-    source: usize,
-    page: &[i64],
-) -> Checked
-    ensures { Promise
-        (net_of map.bound map.count map.directed marks.now from.now to.now costs.now)
-        source page.now (answer_of result.number result.yes) }
+pub fn check(net: Lent<Ints>, source: usize, page: &[i64]) -> Result<bool, Refusal>
+    ensures { Promise (int_net net.entry) source page.now (answer_in result) }
 {
-    let refused = refusal(map, marks, from, to, costs, source, page);
-    if refused != 0 {
-        return Checked {
-            number: refused,
-            yes: false,
-        };
-    }
+    refusal(net, source, page)?;
     let mut met = [0u8; Map::INDICES];
-    let yes = judge(map, from, to, costs, source, page, &mut met);
-    Checked { number: 0, yes }
+    Ok(judge(net, source, page, &mut met))
 }
