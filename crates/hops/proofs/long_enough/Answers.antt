@@ -7,4 +7,6 @@ use Rattle.table.specs.Links.{present}
 use Rattle.hops.proofs.long_enough.Goals as goal
 
 pub overflow_mul-p : goal.overflow_mul-p
-overflow_mul-p c = let m = c.args.map.bound in omega (arith, square_small c.count_present-p.result (omega (arith, c.count_present-p.ensures, count_most (present m c.args.marks.now) m)))
+overflow_mul-p g c =
+    let net = c.args.net.now in
+    omega (arith, square_small c.count_present-p.result (omega (arith, c.count_present-p.ensures, count_most (present net.map.bound net.marks.now) net.map.bound)))

@@ -1,13 +1,13 @@
 -- `hops::refusal` meets its contract.
 -- Assumes nothing.
 use Rattle.std.proofs.Common.{◌≡◌, true, rules}
-use Rattle.net.specs.Net.{net_of, whole_net}
-use Rattle.net.proofs.Bounds.{whole_ints}
+use Rattle.net.specs.Net.{net_in, whole_net}
+use Rattle.hops.proofs.Answers.{whole_map}
 use Rattle.hops.proofs.refusal.Goals as goal
 
 pub long_enough-requires : goal.long_enough-requires
-long_enough-requires c =
-    let z = c.args in
-    let h : whole_net (net_of z.map.bound z.map.count z.map.directed z.marks.now z.from.now z.to.now z.costs.now) ≡ true = search rules in
-    let w = whole_ints _ _ z.map.directed _ _ _ _ h in
+long_enough-requires g c =
+    let net = c.args.net.now in
+    let h : whole_net (net_in g.C.Costs.listed g.C.Costs.room net) ≡ true = search rules in
+    let w = whole_map g.C.Costs.listed g.C.Costs.room net (g.met.C.Costs.fits net.from.now net.to.now net.costs) h in
     (w.indices, w.links, w.marked)

@@ -5,10 +5,10 @@ use Rattle.hops.proofs.Waves.{turn_first, searched, kept_refl}
 use Rattle.hops.proofs.search.Goals as goal
 
 pub loop-head-init : goal.loop-head-init
-loop-head-init c = record { turning = turn_first c.requires.fresh c.meet-size.ensures; rest = kept_refl _ _ _ }
+loop-head-init c = record { turning = turn_first c.requires c.meet-size.ensures; rest = kept_refl _ _ _ }
 
-pub returns-else-size-m : goal.returns-else-size-m
-returns-else-size-m c = searched c.requires.sound c.requires.fresh c.meet-size.ensures c.loop-head.invariant (inr c.if-size-m.false)
+pub returns-else-size-rows : goal.returns-else-size-rows
+returns-else-size-rows c = searched c.args.rows.sound c.requires c.meet-size.ensures c.loop-head.invariant (inr c.if-size-rows.false)
 
 pub returns-after-loop-head : goal.returns-after-loop-head
-returns-after-loop-head c = searched c.requires.sound c.requires.fresh c.meet-size.ensures c.loop-head.invariant (inl c.loop-head-test.false)
+returns-after-loop-head c = searched c.args.rows.sound c.requires c.meet-size.ensures c.loop-head.invariant (inl c.loop-head-test.false)
