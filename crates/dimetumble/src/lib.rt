@@ -50,7 +50,11 @@ pub fn dimetumble_put(
         ≡ put_ints (is_set directed) bound marks.now (link_of a b cost) count.old from.old to.old
         costs.old }
 {
-    let map = Map { bound, count: *count, directed: directed != 0 };
+    let map = Map {
+        bound,
+        count: *count,
+        directed: directed != 0,
+    };
     let done = table::put(map, marks, from, to, costs, a, b, cost);
     *count = done.unwrap_or(*count);
     numbers::number(done)
@@ -75,7 +79,11 @@ pub fn dimetumble_put_f64(
         ≡ put_floats (is_set directed) bound marks.now (link_of a b (raw_cost pattern opened)) count.old
         from.old to.old bits.old opens.old }
 {
-    let map = Map { bound, count: *count, directed: directed != 0 };
+    let map = Map {
+        bound,
+        count: *count,
+        directed: directed != 0,
+    };
     let done = table::put_f64(map, marks, from, to, bits, opens, a, b, pattern, opened);
     *count = done.unwrap_or(*count);
     numbers::number(done)
@@ -107,10 +115,30 @@ pub fn dimetumble_dijkstra<'a>(
         (dijkstra.buffers_of dist.new offsets.new heads.new weights.new preds.new
         peaks.new words.new keys.new) result }
 {
-    let map = Map { bound, count, directed: directed != 0 };
-    let net = Lent { map, marks, from, to, costs: Ints { costs } };
-    let mut lists = Lists { offsets, heads, weights };
-    let mut memory = Memory { dist, preds, peaks, words, keys };
+    let map = Map {
+        bound,
+        count,
+        directed: directed != 0,
+    };
+    let net = Lent {
+        map,
+        marks,
+        from,
+        to,
+        costs: Ints { costs },
+    };
+    let mut lists = Lists {
+        offsets,
+        heads,
+        weights,
+    };
+    let mut memory = Memory {
+        dist,
+        preds,
+        peaks,
+        words,
+        keys,
+    };
     numbers::number(dijkstra::dijkstra(net, source, &mut lists, &mut memory))
 }
 
@@ -147,10 +175,30 @@ pub fn dimetumble_a_star<'a>(
         preds.new peaks.new words.new keys.new)
         (a_star.answer_of result cost.new length.new) }
 {
-    let map = Map { bound, count, directed: directed != 0 };
-    let net = Lent { map, marks, from, to, costs: Ints { costs } };
-    let mut lists = Lists { offsets, heads, weights };
-    let mut memory = Memory { dist, preds, peaks, words, keys };
+    let map = Map {
+        bound,
+        count,
+        directed: directed != 0,
+    };
+    let net = Lent {
+        map,
+        marks,
+        from,
+        to,
+        costs: Ints { costs },
+    };
+    let mut lists = Lists {
+        offsets,
+        heads,
+        weights,
+    };
+    let mut memory = Memory {
+        dist,
+        preds,
+        peaks,
+        words,
+        keys,
+    };
     let reached = a_star::a_star(net, source, target, guess, path, &mut lists, &mut memory);
     let route = reached.unwrap_or(None);
     *cost = route.map_or(clean::NONE_I64, |r| r.cost);
@@ -188,10 +236,30 @@ pub fn dimetumble_dijkstra_path_impl<'a>(
         (dijkstra_path.buffers_of dist.new preds.new offsets.new heads.new weights.new
         peaks.new words.new keys.new) result }
 {
-    let map = Map { bound, count, directed: directed != 0 };
-    let net = Lent { map, marks, from, to, costs: Floats { bits, opens } };
-    let mut lists = Lists { offsets, heads, weights };
-    let mut memory = Memory { dist, preds, peaks, words, keys };
+    let map = Map {
+        bound,
+        count,
+        directed: directed != 0,
+    };
+    let net = Lent {
+        map,
+        marks,
+        from,
+        to,
+        costs: Floats { bits, opens },
+    };
+    let mut lists = Lists {
+        offsets,
+        heads,
+        weights,
+    };
+    let mut memory = Memory {
+        dist,
+        preds,
+        peaks,
+        words,
+        keys,
+    };
     let cutoff = limit(capped, cutoff);
     numbers::number(dijkstra_path::dijkstra_path_impl(net, source, cutoff, &mut lists, &mut memory))
 }
@@ -257,10 +325,28 @@ pub fn dimetumble_bellman_ford<'a>(
         (bellman_ford.buffers_of dist.new offsets.new heads.new weights.new queue.new
         queued.new lengths.new) result }
 {
-    let map = Map { bound, count, directed: directed != 0 };
-    let net = Lent { map, marks, from, to, costs: Ints { costs } };
-    let mut lists = Lists { offsets, heads, weights };
-    let mut ring = Ring { queue, queued, lengths };
+    let map = Map {
+        bound,
+        count,
+        directed: directed != 0,
+    };
+    let net = Lent {
+        map,
+        marks,
+        from,
+        to,
+        costs: Ints { costs },
+    };
+    let mut lists = Lists {
+        offsets,
+        heads,
+        weights,
+    };
+    let mut ring = Ring {
+        queue,
+        queued,
+        lengths,
+    };
     numbers::number(bellman_ford::bellman_ford(net, source, dist, &mut lists, &mut ring))
 }
 
@@ -280,8 +366,18 @@ pub fn dimetumble_floyd_warshall(
         (net_of bound count (is_set directed) marks.now from.now to.now costs.now)
         matrix.old ranks.old matrix.new ranks.new result }
 {
-    let map = Map { bound, count, directed: directed != 0 };
-    let net = Lent { map, marks, from, to, costs: Ints { costs } };
+    let map = Map {
+        bound,
+        count,
+        directed: directed != 0,
+    };
+    let net = Lent {
+        map,
+        marks,
+        from,
+        to,
+        costs: Ints { costs },
+    };
     numbers::number(floyd_warshall::floyd_warshall(net, matrix, ranks))
 }
 
@@ -313,10 +409,30 @@ pub fn dimetumble_johnson<'a>(
         (johnson.scratch_of offsets.new heads.new weights.new heights.new dist.new
         preds.new peaks.new words.new keys.new) result }
 {
-    let map = Map { bound, count, directed: directed != 0 };
-    let net = Lent { map, marks, from, to, costs: Ints { costs } };
-    let mut lists = Lists { offsets, heads, weights };
-    let mut memory = Memory { dist, preds, peaks, words, keys };
+    let map = Map {
+        bound,
+        count,
+        directed: directed != 0,
+    };
+    let net = Lent {
+        map,
+        marks,
+        from,
+        to,
+        costs: Ints { costs },
+    };
+    let mut lists = Lists {
+        offsets,
+        heads,
+        weights,
+    };
+    let mut memory = Memory {
+        dist,
+        preds,
+        peaks,
+        words,
+        keys,
+    };
     numbers::number(johnson::johnson(net, matrix, &mut lists, heights, &mut memory))
 }
 
@@ -344,10 +460,25 @@ pub fn dimetumble_hops<'a>(
         (hops.buffers_of nodes.new matrix.new offsets.new heads.new labels.new
         queue.new) result listed.new }
 {
-    let map = Map { bound, count, directed: directed != 0 };
-    let net = Lent { map, marks, from, to, costs: Ints { costs } };
+    let map = Map {
+        bound,
+        count,
+        directed: directed != 0,
+    };
+    let net = Lent {
+        map,
+        marks,
+        from,
+        to,
+        costs: Ints { costs },
+    };
     let mut table = Table { nodes, matrix };
-    let mut scratch = Scratch { offsets, heads, labels, queue };
+    let mut scratch = Scratch {
+        offsets,
+        heads,
+        labels,
+        queue,
+    };
     let counted = hops::hops(net, &mut table, &mut scratch);
     *listed = counted.unwrap_or(0);
     numbers::number(counted)
@@ -379,10 +510,25 @@ pub fn dimetumble_hops_f64<'a>(
         (hops.buffers_of nodes.new matrix.new offsets.new heads.new labels.new
         queue.new) result listed.new }
 {
-    let map = Map { bound, count, directed: directed != 0 };
-    let net = Lent { map, marks, from, to, costs: Floats { bits, opens } };
+    let map = Map {
+        bound,
+        count,
+        directed: directed != 0,
+    };
+    let net = Lent {
+        map,
+        marks,
+        from,
+        to,
+        costs: Floats { bits, opens },
+    };
     let mut table = Table { nodes, matrix };
-    let mut scratch = Scratch { offsets, heads, labels, queue };
+    let mut scratch = Scratch {
+        offsets,
+        heads,
+        labels,
+        queue,
+    };
     let counted = hops::hops(net, &mut table, &mut scratch);
     *listed = counted.unwrap_or(0);
     numbers::number(counted)
@@ -407,8 +553,18 @@ pub fn dimetumble_page(
         (page_check.answer_of result (is_set yes.new)))
         × (yes.new ≤ 1) }
 {
-    let map = Map { bound, count, directed: directed != 0 };
-    let net = Lent { map, marks, from, to, costs: Ints { costs } };
+    let map = Map {
+        bound,
+        count,
+        directed: directed != 0,
+    };
+    let net = Lent {
+        map,
+        marks,
+        from,
+        to,
+        costs: Ints { costs },
+    };
     let checked = page::check(net, source, page);
     *yes = u8::from(checked.unwrap_or(false));
     numbers::number(checked)
