@@ -59,73 +59,13 @@ blank_i64-requires c =
     let p = (goal.at.blank_i64-requires c).Else-refused-ne0 in
     blank_room _ _ _ (no_refusal p) c.most_arcs-a.ensures c.solve-negative.ensures c.wipe.ensures c.count_present-p.ensures
 
-pub shape_of-matrix-then-negative : goal.shape_of-matrix-then-negative
-shape_of-matrix-then-negative c = c.blank_i64.auto.s ∙ c.solve-negative.auto.matrix
-
-pub shape_of-offsets-then-negative : goal.shape_of-offsets-then-negative
-shape_of-offsets-then-negative c = c.wipe.auto.offsets ∙ c.solve-negative.auto.offsets
-
-pub shape_of-heads-then-negative : goal.shape_of-heads-then-negative
-shape_of-heads-then-negative c = c.wipe.auto.heads ∙ c.solve-negative.auto.heads
-
-pub shape_of-weights-then-negative : goal.shape_of-weights-then-negative
-shape_of-weights-then-negative c = c.wipe.auto.weights ∙ c.solve-negative.auto.weights
-
-pub shape_of-heights-then-negative : goal.shape_of-heights-then-negative
-shape_of-heights-then-negative c = c.wipe.auto.heights ∙ c.solve-negative.auto.heights
-
-pub shape_of-dist-then-negative : goal.shape_of-dist-then-negative
-shape_of-dist-then-negative c = c.wipe.auto.dist ∙ c.solve-negative.auto.dist
-
-pub shape_of-preds-then-negative : goal.shape_of-preds-then-negative
-shape_of-preds-then-negative c = c.wipe.auto.preds ∙ c.solve-negative.auto.preds
-
-pub shape_of-peaks-then-negative : goal.shape_of-peaks-then-negative
-shape_of-peaks-then-negative c = c.wipe.auto.peaks ∙ c.solve-negative.auto.peaks
-
-pub shape_of-words-then-negative : goal.shape_of-words-then-negative
-shape_of-words-then-negative c = c.wipe.auto.words ∙ c.solve-negative.auto.words
-
-pub shape_of-keys-then-negative : goal.shape_of-keys-then-negative
-shape_of-keys-then-negative c = c.wipe.auto.keys ∙ c.solve-negative.auto.keys
-
 pub returns-then-negative : goal.returns-then-negative
 returns-then-negative c =
     let p = (goal.at.returns-then-negative c).Else-refused-ne0 in
     answer_yes _ _ _ (no_refusal p) c.most_arcs-a.ensures c.solve-negative.ensures c.wipe.ensures
     c.count_present-p.ensures c.blank_i64.ensures c.if-negative.true
 
-pub shape_of-matrix : goal.shape_of-matrix
-shape_of-matrix c = c.solve-negative.auto.matrix
-
-pub shape_of-offsets : goal.shape_of-offsets
-shape_of-offsets c = c.wipe.auto.offsets ∙ c.solve-negative.auto.offsets
-
-pub shape_of-heads : goal.shape_of-heads
-shape_of-heads c = c.wipe.auto.heads ∙ c.solve-negative.auto.heads
-
-pub shape_of-weights : goal.shape_of-weights
-shape_of-weights c = c.wipe.auto.weights ∙ c.solve-negative.auto.weights
-
-pub shape_of-heights : goal.shape_of-heights
-shape_of-heights c = c.wipe.auto.heights ∙ c.solve-negative.auto.heights
-
-pub shape_of-dist : goal.shape_of-dist
-shape_of-dist c = c.wipe.auto.dist ∙ c.solve-negative.auto.dist
-
-pub shape_of-preds : goal.shape_of-preds
-shape_of-preds c = c.wipe.auto.preds ∙ c.solve-negative.auto.preds
-
-pub shape_of-peaks : goal.shape_of-peaks
-shape_of-peaks c = c.wipe.auto.peaks ∙ c.solve-negative.auto.peaks
-
-pub shape_of-words : goal.shape_of-words
-shape_of-words c = c.wipe.auto.words ∙ c.solve-negative.auto.words
-
-pub shape_of-keys : goal.shape_of-keys
-shape_of-keys c = c.wipe.auto.keys ∙ c.solve-negative.auto.keys
-
-pub returns : goal.returns
-returns c =
-    let p = (goal.at.returns c).Else-refused-ne0 in
+pub returns-else-negative : goal.returns-else-negative
+returns-else-negative c =
+    let p = (goal.at.returns-else-negative c).Else-refused-ne0 in
     answer_no _ _ _ (no_refusal p) c.most_arcs-a.ensures c.solve-negative.ensures c.wipe.ensures c.if-negative.false
