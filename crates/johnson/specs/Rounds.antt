@@ -4,6 +4,8 @@ use Rattle.std.specs.Prelude.{◌≡◌, Bool, true, false, cond, List, ℕ, zer
 use Rattle.std.specs.Prelude.{get_or, set}
 use Rattle.std.specs.Int.Signed.{lt_z}
 use Rattle.whole.specs.Zed.{◌⊕◌, P, N, Cost32}
+use Rattle.net.specs.declared.Lent.{Lent}
+use Rattle.net.specs.declared.Ints.{Ints}
 
 -- the potential of v
 abbrev pub label : List ℤ → ℕ → ℤ
@@ -30,6 +32,9 @@ pub record Table : Type 0 where
 
 abbrev pub table_of : Bool → List ℕ → List ℕ → List ℤ → Table
 table_of d xs ys cs = record { directed = d; tails = xs; heads = ys; costs = cs }
+
+abbrev pub table_in : Lent Ints → Table
+table_in l = table_of l.map.directed l.from.now l.to.now l.costs.costs.now
 
 -- the ends and the cost of the link at k
 abbrev pub tail : Table → ℕ → ℕ

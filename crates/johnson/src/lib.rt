@@ -2,21 +2,24 @@
 // then one search per index over shifted costs.
 #![tactic(auto)]
 
-ghost use Rattle.std.specs.Prelude.{◌≡◌, ℕ, ◌+◌, ◌*◌, ◌≤◌, ◌<◌, ◌^◌, pos, length, get_or, set};
+ghost use Rattle.std.specs.Prelude.{◌≡◌, ℕ, ◌*◌, ◌≤◌, ◌<◌, ◌^◌, pos, length, get_or};
 ghost use Rattle.whole.specs.Zed.{◌⊕◌, ◌⊖◌, Within};
-ghost use Rattle.johnson.specs.Rounds.{label, lowers, lowered, table_of, Shallow, Linked, Deep};
-ghost use Rattle.johnson.specs.Rounds.{LinkRelaxed, Swept};
+ghost use Rattle.numbers.specs.Refusal.{number_of};
+ghost use Rattle.johnson.specs.Rounds.{label, lowers, lowered, table_in, Shallow, Linked, Deep, LinkRelaxed, Swept};
 ghost use Rattle.johnson.specs.Potentials.{Ask, Answered};
-ghost use Rattle.rows.specs.Rows.{lists_of};
-ghost use Rattle.net.specs.Net.{net_of};
+ghost use Rattle.rows.specs.Rows.{lists_of, lists_in, SameLists};
+ghost use Rattle.net.specs.Net.{int_net};
 ghost use Rattle.johnson.specs.Shifting.{shifted_back, Listed, ShiftedTo, RowShifted};
-ghost use Rattle.johnson.specs.Promise.{Promise, scratch_of, long_enough, wiped_all};
-ghost use Rattle.turns.specs.Memory.{memory_of};
+ghost use Rattle.johnson.specs.Promise.{Promise, scratch_in, enough};
+ghost use Rattle.search.specs.Lists.{memory_in, SameMemory};
 ghost use Rattle.turns.specs.Firsts.{EnoughMemory, KeptMemory};
 ghost use Rattle.johnson.specs.Parts.{Moderate, CanShow, RowShown, CanFill, Filled};
-ghost use Rattle.johnson.specs.Parts.{Ripe, Prepared, refusal_no, EnoughScratch, Passed, Solved};
+ghost use Rattle.johnson.specs.Parts.{Ripe, Prepared, refusal_no, Passed, Solved};
 
-use table::Map;
+use net::{Ints, Lent};
+use numbers::Refusal;
+use rows::Lists;
+use search::Memory;
 
 // A look at an arc from u to v: the potential of v falls, or stays. Did it fall?
 fn relax(u: usize, v: usize, cost: i32, heights: &mut [i64]) -> bool
@@ -44,42 +47,32 @@ fn relax_link(directed: bool, u: usize, v: usize, cost: i32, heights: &mut [i64]
 }
 
 // One round over the links of the map, in table order: did a potential fall?
-fn round(map: Map, from: &[u16], to: &[u16], costs: &[i32], heights: &mut [i64]) -> bool
-    requires { Linked (length heights.old) map.count (table_of map.directed from.now to.now costs.now)
+fn round(net: Lent<Ints>, heights: &mut [i64]) -> bool
+    requires { Linked (length heights.old) net.map.count (table_in net)
         × Shallow (length heights.old) (1023 * 16384) heights.old }
-    ensures { Swept
-        (table_of map.directed from.now to.now costs.now) map.count heights.old heights.new result }
+    ensures { Swept (table_in net.entry) net.entry.map.count heights.old heights.new result }
 {
     let mut fell = false;
-    for k in 0..map.count {
-        let u = usize::from(from[k]);
-        let v = usize::from(to[k]);
-        fell |= relax_link(map.directed, u, v, costs[k], heights);
+    for k in 0..net.map.count {
+        let u = usize::from(net.from[k]);
+        let v = usize::from(net.to[k]);
+        fell |= relax_link(net.map.directed, u, v, net.costs.costs[k], heights);
     }
     fell
 }
 
-// The potentials of a table over p indices, from 0: is some closed walk below zero? None is once no potential falls in a round;
+// The potentials of a map of p indices, from 0: is some closed walk below zero? None is once no potential falls in a round;
 // one is where a potential still falls in the p-th. The promise is in specs/Potentials.antt.
-fn potentials(
-    map: Map,
-    from: &[u16],
-    to: &[u16],
-    costs: &[i32],
-    p: usize,
-    heights: &mut [i64],
-) -> bool
-    requires { Ask (table_of map.directed from.now to.now costs.now) map.count p heights.old }
-    ensures { Answered
-        (table_of map.directed from.now to.now costs.now) map.count p heights.old
-        heights.new result }
+fn potentials(net: Lent<Ints>, p: usize, heights: &mut [i64]) -> bool
+    requires { Ask (table_in net) net.map.count p heights.old }
+    ensures { Answered (table_in net.entry) net.entry.map.count p heights.old heights.new result }
 {
     for _round in 1..p {
-        if !round(map, from, to, costs, heights) {
+        if !round(net, heights) {
             return false;
         }
     }
-    round(map, from, to, costs, heights)
+    round(net, heights)
 }
 
 // A number shifted by two potentials, as a weight is by those of its arc's ends, and a distance back: none is far from 0, so the sum fits.
@@ -121,32 +114,22 @@ fn shift_all(m: usize, offsets: &[usize], heads: &[u16], heights: &[i64], weight
 }
 
 // The neighbour list of the map with its weights shifted by the potentials, or true where some closed walk is below zero.
-fn prepare(
-    map: Map,
-    marks: &[u8],
-    from: &[u16],
-    to: &[u16],
-    costs: &[i32],
-    offsets: &mut [usize],
-    heads: &mut [u16],
-    weights: &mut [i64],
-    heights: &mut [i64],
-) -> bool
-    requires { Ripe
-        (net_of map.bound map.count map.directed marks.now from.now to.now costs.now)
-        (lists_of offsets.old heads.old weights.old) heights.old }
-    ensures { Prepared
-        (net_of map.bound map.count map.directed marks.now from.now to.now costs.now)
-        (lists_of offsets.old heads.old weights.old)
-        (lists_of offsets.new heads.new weights.new) heights.new result }
+fn prepare(net: Lent<Ints>, lists: &mut Lists<i64>, heights: &mut [i64]) -> bool
+    requires { Ripe (int_net net) (lists_in lists.old) heights.old }
+    ensures prepared { Prepared (int_net net.entry) (lists_in lists.old) (lists_in lists.new) heights.new result }
+    ensures same { SameLists lists.old lists.new }
 {
-    let m = map.bound;
-    let p = net::count_present(m, marks);
-    clean::clear_i64(heights, m);
-    if potentials(map, from, to, costs, p, heights) {
+    let m = net.map.bound;
+    let p = net::count_present(m, net.marks);
+    clean::fill(heights, m, 0);
+    if potentials(net, p, heights) {
         return true;
     }
-    rows::position_csr(map, from, to, costs, offsets, heads, weights);
+    rows::position_csr(net, lists);
+    // each is lent `&mut`: a `&` beside it gets no generated proof
+    let offsets = &mut *lists.offsets;
+    let heads = &mut *lists.heads;
+    let weights = &mut *lists.weights;
     shift_all(m, offsets, heads, heights, weights);
     false
 }
@@ -172,17 +155,16 @@ fn show_row(
     s: usize,
     marks: &[u8],
     heights: &[i64],
-    dist: &[i64],
+    memory: &Memory<i64>,
     matrix: &mut [i64],
 )
-    requires { CanShow m at s marks.now heights.now dist.now matrix.old }
-    ensures { RowShown m at s m marks.now heights.now dist.now matrix.old
-        matrix.new }
+    requires { CanShow m at s marks.now heights.now memory.now.dist.now matrix.old }
+    ensures { RowShown m at s m marks.now heights.now memory.now.dist.now matrix.old matrix.new }
 {
     let mut j = 0;
     for v in 0..m {
         if marks[v] != 0 {
-            matrix[at + j] = shift_back(heights, dist, s, v);
+            matrix[at + j] = shift_back(heights, memory.dist, s, v);
             j += 1;
         }
     }
@@ -193,33 +175,21 @@ fn fill(
     m: usize,
     p: usize,
     marks: &[u8],
-    offsets: &[usize],
-    heads: &[u16],
-    weights: &[i64],
+    lists: &Lists<i64>,
     heights: &[i64],
     matrix: &mut [i64],
-    dist: &mut [i64],
-    preds: &mut [u32],
-    peaks: &mut [usize],
-    words: &mut [usize],
-    keys: &mut [i64],
+    memory: &mut Memory<i64>,
 )
-    requires { CanFill m p marks.now (lists_of offsets.now heads.now weights.now) heights.now matrix.old
-        × EnoughMemory m (memory_of dist.old preds.old peaks.old words.old keys.old) }
-    ensures { Filled m p m marks.now
-        (lists_of offsets.now heads.now weights.now) heights.now matrix.old
-        matrix.new
-        × KeptMemory m
-        (memory_of dist.old preds.old peaks.old words.old keys.old)
-        (memory_of dist.new preds.new peaks.new words.new keys.new) }
+    requires { CanFill m p marks.now (lists_in lists.now) heights.now matrix.old × EnoughMemory m (memory_in memory.old) }
+    ensures filled { Filled m p m marks.now (lists_in lists.now) heights.now matrix.old matrix.new }
+    ensures kept { KeptMemory m (memory_in memory.old) (memory_in memory.new) }
+    ensures same { SameMemory memory.old memory.new }
 {
     let mut i = 0;
     for u in 0..m {
         if marks[u] != 0 {
-            search::ints::to_all(
-                m, u, offsets, heads, weights, dist, preds, peaks, words, keys,
-            );
-            show_row(m, i * p, u, marks, heights, dist, matrix);
+            search::to_all(m, u, lists, memory);
+            show_row(m, i * p, u, marks, heights, memory, matrix);
             i += 1;
         }
     }
@@ -227,210 +197,94 @@ fn fill(
 
 // The list is prepared and every row made, on the part used of each slice. True where some closed walk is below zero.
 fn solve(
-    map: Map,
-    marks: &[u8],
-    from: &[u16],
-    to: &[u16],
-    costs: &[i32],
+    net: Lent<Ints>,
     matrix: &mut [i64],
-    offsets: &mut [usize],
-    heads: &mut [u16],
-    weights: &mut [i64],
+    lists: &mut Lists<i64>,
     heights: &mut [i64],
-    dist: &mut [i64],
-    preds: &mut [u32],
-    peaks: &mut [usize],
-    words: &mut [usize],
-    keys: &mut [i64],
+    memory: &mut Memory<i64>,
 ) -> bool
-    requires { Passed
-        (net_of map.bound map.count map.directed marks.now from.now to.now costs.now) matrix.old
-        (scratch_of offsets.old heads.old weights.old heights.old dist.old preds.old peaks.old words.old keys.old) }
-    ensures { let net = net_of map.bound map.count map.directed marks.now from.now to.now
-        costs.now in
-        let lent = scratch_of offsets.old heads.old weights.old heights.old dist.old
-        preds.old peaks.old words.old keys.old in
-        let left = scratch_of offsets.new heads.new weights.new heights.new dist.new
-        preds.new peaks.new words.new keys.new in
-        Solved net matrix.old lent matrix.new left result }
+    requires { Passed (int_net net) matrix.old (scratch_in lists.old heights.old memory.old) }
+    ensures solved { Solved (int_net net.entry) matrix.old
+        (scratch_in lists.old heights.old memory.old) matrix.new
+        (scratch_in lists.new heights.new memory.new) result }
+    ensures same { SameLists lists.old lists.new × SameMemory memory.old memory.new }
 {
-    let m = map.bound;
-    if prepare(
-        map,
-        marks,
-        from,
-        to,
-        costs,
-        offsets,
-        heads,
-        weights,
-        &mut heights[..m],
-    ) {
+    let m = net.map.bound;
+    if prepare(net, lists, &mut heights[..m]) {
         return true;
     }
-    let p = net::count_present(m, marks);
-    fill(
-        m,
-        p,
-        marks,
-        offsets,
-        heads,
-        weights,
-        &heights[..m],
-        matrix,
-        dist,
-        preds,
-        peaks,
-        words,
-        keys,
-    );
+    let p = net::count_present(m, net.marks);
+    fill(m, p, net.marks, lists, &heights[..m], matrix, memory);
     false
 }
 
-// Is each slice as long as the part used?
+// Are the limits kept, and is each slice as long as the part used?
 #[tactic(auto, unfolding(crate::specs::Promise::long_enough))]
-fn long_enough(
-    m: usize,
-    a: usize,
-    p: usize,
+fn enough(
+    net: Lent<Ints>,
     matrix: &[i64],
-    offsets: &[usize],
-    heads: &[u16],
-    weights: &[i64],
+    lists: &Lists<i64>,
     heights: &[i64],
-    dist: &[i64],
-    preds: &[u32],
-    peaks: &[usize],
-    words: &[usize],
-    keys: &[i64],
+    memory: &Memory<i64>,
 ) -> bool
-    requires { p ≤ 1024 }
-    ensures { let lent = scratch_of offsets.now heads.now weights.now heights.now dist.now
-        preds.now peaks.now words.now keys.now in
-        result ≡ long_enough m a p matrix.now lent }
+    ensures { result ≡ enough (int_net net.entry) matrix.now (scratch_in lists.now heights.now memory.now) }
 {
+    if !net.whole() {
+        return false;
+    }
+    let m = net.map.bound;
+    let p = net::count_present(m, net.marks);
     p * p <= matrix.len()
-        && rows::has_lists(m, a, offsets, heads, weights)
+        && lists.long_enough(m, net.most_arcs())
         && m <= heights.len()
-        && search::ints::has_memory(m, dist, preds, peaks, words, keys)
+        && memory.long_enough(m)
 }
 
-// 1 where a limit is passed or a lent slice is too short, 2 where a link names an index that the map has not, else 0.
+// A limit is passed or a lent slice is too short, or a link names an index that the map has not.
+#[tactic(auto, unfolding(crate::specs::Parts::refusal_no))]
 fn refusal(
-    map: Map,
-    marks: &[u8],
-    from: &[u16],
-    to: &[u16],
-    costs: &[i32],
+    net: Lent<Ints>,
     matrix: &[i64],
-    offsets: &[usize],
-    heads: &[u16],
-    weights: &[i64],
+    lists: &Lists<i64>,
     heights: &[i64],
-    dist: &[i64],
-    preds: &[u32],
-    peaks: &[usize],
-    words: &[usize],
-    keys: &[i64],
-) -> usize
-    ensures { let net = net_of map.bound map.count map.directed marks.now from.now to.now
-        costs.now in
-        let lent = scratch_of offsets.now heads.now weights.now heights.now dist.now
-        preds.now peaks.now words.now keys.now in
-        result ≡ refusal_no net matrix.now lent }
+    memory: &Memory<i64>,
+) -> Result<(), Refusal>
+    ensures { number_of result ≡ refusal_no (int_net net.entry) matrix.now (scratch_in lists.now heights.now memory.now) }
 {
-    if !net::whole(map, marks, from, to, costs) {
-        return 1;
-    }
-    let a = net::most_arcs(map.directed, map.count);
-    let p = net::count_present(map.bound, marks);
-    if !long_enough(
-        map.bound, a, p, matrix, offsets, heads, weights, heights, dist, preds, peaks, words, keys,
-    ) {
-        return 1;
-    }
-    if net::inside(map, marks, from, to, costs) {
-        0
+    if !enough(net, matrix, lists, heights, memory) {
+        Err(Refusal::Limit)
+    } else if !net.inside() {
+        Err(Refusal::Index)
     } else {
-        2
+        Ok(())
     }
 }
 
-// Zero in the part used of each scratch slice.
-fn wipe(
-    m: usize,
-    a: usize,
-    offsets: &mut [usize],
-    heads: &mut [u16],
-    weights: &mut [i64],
-    heights: &mut [i64],
-    dist: &mut [i64],
-    preds: &mut [u32],
-    peaks: &mut [usize],
-    words: &mut [usize],
-    keys: &mut [i64],
-)
-    requires { EnoughScratch m a
-        (scratch_of offsets.old heads.old weights.old heights.old dist.old preds.old peaks.old words.old keys.old) }
-    ensures { let lent = scratch_of offsets.old heads.old weights.old heights.old dist.old
-        preds.old peaks.old words.old keys.old in
-        let left = scratch_of offsets.new heads.new weights.new heights.new dist.new
-        preds.new peaks.new words.new keys.new in
-        left ≡ wiped_all m a lent }
-{
-    rows::wipe(m, a, offsets, heads, weights);
-    clean::clear_i64(heights, m);
-    search::ints::wipe_memory(m, dist, preds, peaks, words, keys);
-}
-
-// The least totals between all pairs of nodes. 1 where a lent slice is too short or a limit is passed, 2 where a link names an index that
-// the map has not, 7 where a closed walk totals below zero, else 0. The promise is in specs/Promise.antt.
+// The least totals between all pairs of nodes. Limit where a limit is passed or a lent slice is too short, Index where a link names an index
+// that the map has not, Negative where a closed walk totals below zero. The promise is in specs/Promise.antt.
 pub fn johnson(
-    map: Map,
-    marks: &[u8],
-    from: &[u16],
-    to: &[u16],
-    costs: &[i32],
+    net: Lent<Ints>,
     matrix: &mut [i64],
-    offsets: &mut [usize],
-    heads: &mut [u16],
-    weights: &mut [i64],
+    lists: &mut Lists<i64>,
     heights: &mut [i64],
-    dist: &mut [i64],
-    preds: &mut [u32],
-    peaks: &mut [usize],
-    words: &mut [usize],
-    keys: &mut [i64],
-) -> usize
-    ensures { let net = net_of map.bound map.count map.directed marks.now from.now to.now
-        costs.now in
-        let lent = scratch_of offsets.old heads.old weights.old heights.old dist.old
-        preds.old peaks.old words.old keys.old in
-        let left = scratch_of offsets.new heads.new weights.new heights.new dist.new
-        preds.new peaks.new words.new keys.new in
-        Promise net matrix.old lent matrix.new left result }
+    memory: &mut Memory<i64>,
+) -> Result<(), Refusal>
+    ensures promise { Promise (int_net net.entry) matrix.old
+        (scratch_in lists.old heights.old memory.old) matrix.new
+        (scratch_in lists.new heights.new memory.new) (number_of result) }
+    ensures same { SameLists lists.old lists.new × SameMemory memory.old memory.new }
 {
-    let refused = refusal(
-        map, marks, from, to, costs, matrix, offsets, heads, weights, heights, dist, preds, peaks,
-        words, keys,
-    );
-    if refused != 0 {
-        return refused;
-    }
-    let m = map.bound;
-    let a = net::most_arcs(map.directed, map.count);
-    let p = net::count_present(m, marks);
-    let negative = solve(
-        map, marks, from, to, costs, matrix, offsets, heads, weights, heights, dist, preds, peaks,
-        words, keys,
-    );
-    wipe(
-        m, a, offsets, heads, weights, heights, dist, preds, peaks, words, keys,
-    );
+    refusal(net, matrix, lists, heights, memory)?;
+    let m = net.map.bound;
+    let negative = solve(net, matrix, lists, heights, memory);
+    lists.wipe(m, net.most_arcs(), 0);
+    clean::fill(heights, m, 0);
+    memory.wipe(m, 0);
     if negative {
-        clean::blank_i64(matrix, p * p);
-        7
+        let p = net::count_present(m, net.marks);
+        clean::fill(matrix, p * p, clean::NONE_I64);
+        Err(Refusal::Negative)
     } else {
-        0
+        Ok(())
     }
 }

@@ -20,7 +20,7 @@ relax_link-fell-requires c =
 
 pub loop-k-preserved : goal.loop-k-preserved
 loop-k-preserved c =
-    let e = to_z-of_z w32 (get_or c.args.costs.now c.loop-k.k (pos 0)) (search rules) in
+    let e = to_z-of_z w32 (get_or c.args.net.costs.costs.now c.loop-k.k (pos 0)) (search rules) in
     sweep_next c.requires.0 c.loop-k.invariant c.loop-k-test.true (rw (c.from-u.ensures, c.from-v.ensures, e) at c.relax_link-fell.ensures) refl
 
 pub returns : goal.returns
