@@ -10,15 +10,6 @@ ghost use Rattle.net.specs.Ranks.{Ranks};
 
 use table::{FloatCost, Map};
 
-// a: the room that the arcs of n links may take.
-#[tactic(auto, unfolding(crate::specs::Net::most_arcs))]
-pub fn most_arcs(directed: bool, n: usize) -> usize
-    requires { n ≤ 8192 }
-    ensures { result ≡ most_arcs directed n }
-{
-    if directed { n } else { n + n }
-}
-
 // p: how many indices the map has.
 pub fn count_present(bound: usize, marks: &[u8]) -> usize
     requires { bound ≤ length marks.now }
@@ -158,11 +149,17 @@ impl<'a, C: Costs> Lent<'a, C> {
     }
 
     // a: the room that its arcs may take.
+    #[tactic(auto, unfolding(crate::specs::Net::most_arcs))]
     pub fn most_arcs(self) -> usize
         requires { self.map.count ≤ 8192 }
         ensures { result ≡ most_arcs self.entry.map.directed self.entry.map.count }
     {
-        most_arcs(self.map.directed, self.map.count)
+        let count = self.map.count;
+        if self.map.directed {
+            count
+        } else {
+            count + count
+        }
     }
 
     // Does it have the index i, which may be any number?

@@ -1,10 +1,9 @@
 #![tactic(auto)]
 
-ghost use Rattle.std.specs.Prelude.{true, ◌≡◌, ℕ, ◌≤◌, ◌<◌, length, get_or, take, unwrap_or};
-ghost use Rattle.std.specs.Option.{ForSome};
+ghost use Rattle.std.specs.Prelude.{true, ◌≡◌, ℕ, ◌≤◌, ◌<◌, length, get_or, take};
 ghost use Rattle.numbers.specs.Refusal.{number_of, count_after};
 ghost use Rattle.table.specs.Links.{present, present_both, lent_whole, all_inside, ends, table_no};
-ghost use Rattle.table.specs.Links.{same_pair, joins_ends, FirstPlace, placing, link_of};
+ghost use Rattle.table.specs.Links.{same_pair, joins_ends, Found, placing, link_of};
 ghost use Rattle.table.specs.Lent.{room_ends, room_ints, room_floats, written, ints_now, put_ints, floats_now, raw_cost};
 ghost use Rattle.table.specs.Lent.{put_floats};
 ghost use Rattle.table.specs.Placed.{place_in};
@@ -191,7 +190,7 @@ pub fn find_link(
     v: u16,
 ) -> Option<usize>
     requires { (n ≤ length from.now) × (n ≤ length to.now) }
-    ensures { FirstPlace directed u v n from.now to.now (unwrap_or result n) × ForSome result (λ k. k < n) }
+    ensures { Found directed u v n from.now to.now result }
 {
     for k in 0..n {
         if same_link(directed, u, v, from[k], to[k]) {

@@ -43,13 +43,13 @@ goes w k f =
 pub returns-in-Some : goal.returns-in-Some
 returns-in-Some c =
     let f = c.in-Some.ensures in
-    place_old _ _ _ (f.1 _ refl) ∙ goes (goal.at.returns-in-Some c).After-find_link _ f.0
+    place_old _ _ _ f.0 ∙ goes (goal.at.returns-in-Some c).After-find_link _ f.1
 
 -- no room
 pub returns-then-room-count : goal.returns-then-room-count
 returns-then-room-count c =
-    place_full _ _ _ (omega arith) c.if-room-count.true ∙ goes (goal.at.returns-then-room-count c).After-find_link _ c.in_default.ensures.0
+    place_full _ _ _ (omega arith) c.if-room-count.true ∙ goes (goal.at.returns-then-room-count c).After-find_link _ c.in_default.ensures
 
 -- at the end
 pub returns : goal.returns
-returns c = place_new _ _ _ (omega arith) c.if-room-count.false ∙ goes (goal.at.returns c).After-find_link _ c.in_default.ensures.0
+returns c = place_new _ _ _ (omega arith) c.if-room-count.false ∙ goes (goal.at.returns c).After-find_link _ c.in_default.ensures
