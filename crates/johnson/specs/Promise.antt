@@ -4,12 +4,10 @@ use Rattle.std.specs.Prelude.{Bool, ◌&&◌, List, ℕ, ◌*◌, leb, ℤ, pos,
 use Rattle.numbers.specs.Numbers.{Row}
 use Rattle.clean.specs.Fill.{filled}
 use Rattle.net.specs.Net.{Net, whole_net, most_arcs_of, width}
-use Rattle.rows.specs.Rows.{Lists, lists_of, lists_in}
-use Rattle.rows.specs.declared.Lists as lent
-use Rattle.search.specs.declared.Memory as store
+use Rattle.rows.specs.Rows.{Lists, lists_of}
 use Rattle.rows.specs.Scratch.{has_lists, wiped}
 use Rattle.turns.specs.Memory.{Memory, memory_of}
-use Rattle.search.specs.Lists.{has_memory, wiped_memory, memory_in}
+use Rattle.search.specs.Lists.{has_memory, wiped_memory}
 use Rattle.matrix.specs.Matrix.{Buffers, buffers_of, AllPairs}
 use Rattle.matrix.specs.Matrix as pairs
 
@@ -23,8 +21,9 @@ pub record Scratch : Type 0 where
 abbrev pub scratch_of : List ℕ → List ℕ → List ℤ → List ℤ → List ℤ → List ℕ → List ℕ → List ℕ → List ℤ → Scratch
 scratch_of o h w t d p q i k = record { rows = lists_of o h w; heights = t; memory = memory_of d p q i k }
 
-abbrev pub scratch_in : lent.Lists ℤ → List ℤ → store.Memory ℤ → Scratch
-scratch_in l h m = record { rows = lists_in l; heights = h; memory = memory_in m }
+-- of a neighbour list, the potentials and what a search writes
+abbrev pub scratch : Lists ℤ → List ℤ → Memory ℤ → Scratch
+scratch l h m = record { rows = l; heights = h; memory = m }
 
 -- is each slice as long as the part used: p * p entries of the matrix, and 7m + 1 + 2a of scratch in all?
 unfoldable pub long_enough : ℕ → ℕ → ℕ → List ℤ → Scratch → Bool

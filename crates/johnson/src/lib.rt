@@ -10,7 +10,7 @@ ghost use Rattle.johnson.specs.Potentials.{Ask, Answered};
 ghost use Rattle.rows.specs.Rows.{lists_of, lists_in, SameLists};
 ghost use Rattle.net.specs.Net.{int_net};
 ghost use Rattle.johnson.specs.Shifting.{shifted_back, Listed, ShiftedTo, RowShifted};
-ghost use Rattle.johnson.specs.Promise.{Promise, scratch_in, enough};
+ghost use Rattle.johnson.specs.Promise.{Promise, scratch, enough};
 ghost use Rattle.search.specs.Lists.{memory_in, SameMemory};
 ghost use Rattle.turns.specs.Firsts.{EnoughMemory, KeptMemory};
 ghost use Rattle.johnson.specs.Parts.{Moderate, CanShow, RowShown, CanFill, Filled};
@@ -203,10 +203,10 @@ fn solve(
     heights: &mut [i64],
     memory: &mut Memory<i64>,
 ) -> bool
-    requires { Passed (int_net net) matrix.old (scratch_in lists.old heights.old memory.old) }
+    requires { Passed (int_net net) matrix.old (scratch (lists_in lists.old) heights.old (memory_in memory.old)) }
     ensures solved { Solved (int_net net.entry) matrix.old
-        (scratch_in lists.old heights.old memory.old) matrix.new
-        (scratch_in lists.new heights.new memory.new) result }
+        (scratch (lists_in lists.old) heights.old (memory_in memory.old)) matrix.new
+        (scratch (lists_in lists.new) heights.new (memory_in memory.new)) result }
     ensures same { SameLists lists.old lists.new × SameMemory memory.old memory.new }
 {
     let m = net.map.bound;
@@ -227,7 +227,7 @@ fn enough(
     heights: &[i64],
     memory: &Memory<i64>,
 ) -> bool
-    ensures { result ≡ enough (int_net net.entry) matrix.now (scratch_in lists.now heights.now memory.now) }
+    ensures { result ≡ enough (int_net net.entry) matrix.now (scratch (lists_in lists.now) heights.now (memory_in memory.now)) }
 {
     if !net.whole() {
         return false;
@@ -249,7 +249,7 @@ fn refusal(
     heights: &[i64],
     memory: &Memory<i64>,
 ) -> Result<(), Refusal>
-    ensures { number_of result ≡ refusal_no (int_net net.entry) matrix.now (scratch_in lists.now heights.now memory.now) }
+    ensures { number_of result ≡ refusal_no (int_net net.entry) matrix.now (scratch (lists_in lists.now) heights.now (memory_in memory.now)) }
 {
     if !enough(net, matrix, lists, heights, memory) {
         Err(Refusal::Limit)
@@ -270,8 +270,8 @@ pub fn johnson(
     memory: &mut Memory<i64>,
 ) -> Result<(), Refusal>
     ensures promise { Promise (int_net net.entry) matrix.old
-        (scratch_in lists.old heights.old memory.old) matrix.new
-        (scratch_in lists.new heights.new memory.new) (number_of result) }
+        (scratch (lists_in lists.old) heights.old (memory_in memory.old)) matrix.new
+        (scratch (lists_in lists.new) heights.new (memory_in memory.new)) (number_of result) }
     ensures same { SameLists lists.old lists.new × SameMemory memory.old memory.new }
 {
     refusal(net, matrix, lists, heights, memory)?;

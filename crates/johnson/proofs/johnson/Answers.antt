@@ -8,7 +8,9 @@ use Rattle.numbers.proofs.Refused.{refused_ne0, number_handed_on}
 use Rattle.net.specs.Net.{int_net}
 use Rattle.net.proofs.Bounds.{Whole, width_small}
 use Rattle.matrix.proofs.Matrix.{square_small}
-use Rattle.johnson.specs.Promise.{scratch_in, wiped_all}
+use Rattle.rows.specs.Rows.{lists_in}
+use Rattle.search.specs.Lists.{memory_in}
+use Rattle.johnson.specs.Promise.{scratch, wiped_all}
 use Rattle.johnson.specs.Parts.{refusal_no}
 use Rattle.johnson.proofs.Refusals.{refused, passed, limits}
 use Rattle.johnson.proofs.Answers.{room_after, blank_room, answer_yes, answer_no}
@@ -17,7 +19,7 @@ use Rattle.johnson.proofs.johnson.Goals.{In_ok-refusal, After-wipe-2}
 
 -- past the refusals
 module _ (e : In_ok-refusal) where
-  no_refusal : refusal_no (int_net e.args.net) e.args.matrix.now (scratch_in e.args.lists.now e.args.heights.now e.args.memory.now) ≡ 0
+  no_refusal : refusal_no (int_net e.args.net) e.args.matrix.now (scratch (lists_in e.args.lists.now) e.args.heights.now (memory_in e.args.memory.now)) ≡ 0
   no_refusal = sym e.in_ok-refusal.ensures
 
   map_whole : Whole (int_net e.args.net)
@@ -27,8 +29,8 @@ module _ (e : In_ok-refusal) where
 
 -- the scratch after the three wipes
 module _ (e : After-wipe-2) where
-  wiped : scratch_in e.wipe.new.self e.fill.new.s e.wipe-2.new.self
-      ≡ wiped_all e.args.net.map.bound e.most_arcs.result (scratch_in e.solve-negative.new.lists e.solve-negative.new.heights e.solve-negative.new.memory)
+  wiped : scratch (lists_in e.wipe.new.self) e.fill.new.s (memory_in e.wipe-2.new.self)
+      ≡ wiped_all e.args.net.map.bound e.most_arcs.result (scratch (lists_in e.solve-negative.new.lists) e.solve-negative.new.heights (memory_in e.solve-negative.new.memory))
   wiped = λ i. record { rows = e.wipe.ensures.wiped i; heights = e.fill.ensures i; memory = e.wipe-2.ensures.wiped i }
 
 pub returns-in_err-refusal-clause-promise : goal.returns-in_err-refusal-clause-promise
