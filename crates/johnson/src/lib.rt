@@ -227,7 +227,9 @@ fn enough(
     heights: &[i64],
     memory: &Memory<i64>,
 ) -> bool
-    ensures { result ≡ enough (int_net net.entry) matrix.now (scratch (lists_in lists.now) heights.now (memory_in memory.now)) }
+    ensures { result
+        ≡ enough (int_net net.entry) matrix.now
+        (scratch (lists_in lists.now) heights.now (memory_in memory.now)) }
 {
     if !net.whole() {
         return false;
@@ -249,7 +251,9 @@ fn refusal(
     heights: &[i64],
     memory: &Memory<i64>,
 ) -> Result<(), Refusal>
-    ensures { number_of result ≡ refusal_no (int_net net.entry) matrix.now (scratch (lists_in lists.now) heights.now (memory_in memory.now)) }
+    ensures { number_of result
+        ≡ refusal_no (int_net net.entry) matrix.now
+        (scratch (lists_in lists.now) heights.now (memory_in memory.now)) }
 {
     if !enough(net, matrix, lists, heights, memory) {
         Err(Refusal::Limit)
@@ -260,8 +264,8 @@ fn refusal(
     }
 }
 
-// The least totals between all pairs of nodes. Limit where a limit is passed or a lent slice is too short, Index where a link names an index
-// that the map has not, Negative where a closed walk totals below zero. The promise is in specs/Promise.antt.
+// The least totals between all pairs of nodes. Limit where a limit is passed or a lent slice is too short, Index where a link names
+// an index that the map has not, Negative where a closed walk totals below zero. The promise is in specs/Promise.antt.
 pub fn johnson(
     net: Lent<Ints>,
     matrix: &mut [i64],
