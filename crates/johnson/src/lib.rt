@@ -188,7 +188,8 @@ fn fill(
     let mut i = 0;
     for u in 0..m {
         if marks[u] != 0 {
-            search::to_all(m, u, lists, memory);
+            // no weight is below zero, so no cost is bad
+            let _ = search::to_all(m, u, lists, memory);
             show_row(m, i * p, u, marks, heights, memory, matrix);
             i += 1;
         }
