@@ -1,7 +1,7 @@
 -- `johnson::johnson` meets its contract: each answer is a law of proofs/Answers.antt, at what the calls gave.
 -- A refusal returns before the first write. Past it the map is solved, and the scratch is wiped whatever the answer is; after a yes the matrix is blanked.
 -- Assumes nothing.
-use mathlib.Core.Path.{◌≡◌, refl, sym, ap, ◌∙◌}
+use mathlib.Core.Path.{◌≡◌, sym, ◌∙◌}
 use native.Mathlib.Omega.{arith}
 use Rattle.numbers.specs.Refusal.{no_of, number_of}
 use Rattle.numbers.proofs.Refused.{refused_ne0, number_handed_on}
