@@ -17,7 +17,7 @@ use Rattle.rows.specs.Rows.{Lists, lists_of}
 use Rattle.rows.specs.RowArc.{RowArc}
 use Rattle.walks.specs.Shift.{Shifted}
 use Rattle.johnson.specs.Rounds.{label}
-use Rattle.johnson.specs.Shifting.{shifted_cost, start, Listed, ShiftedTo, RowShifted}
+use Rattle.johnson.specs.Shifting.{shifted_cost, start, Listed, ShiftedTo}
 
 -- rows that follow one another
 abbrev Rising : ℕ → Lists ℤ → Type 0
@@ -89,9 +89,6 @@ module _ {m u : ℕ} {os hs : List ℕ} {h ws ws' : List ℤ} {i : ℕ} (l : u <
 
     pub row_next : {ws'' : List ℤ} → ws'' ≡ set ws' i (shifted_cost h u (get_or hs i 0) (get_or ws' i (pos 0))) → Shifting m u os hs h ws ws'' (i + 1)
     row_next e = subst (λ (x : List ℤ). Shifting m u os hs h ws x (i + 1)) (sym e) stored
-
-  pub row_ends : get_or os (u + 1) 0 ≤ i → RowShifted m u os hs h ws ws'
-  row_ends k = record { long = q.long; next = λ ws₀ z. let e : i ≡ get_or os (u + 1) 0 = omega (arith, q.some) in subst (ShiftedTo m (lists_of os hs ws₀) h ws') e (q.next ws₀ z) }
 
 -- ---- the arcs of the shifted list are the shifted arcs
 module _ {m : ℕ} {os hs : List ℕ} {h ws ws' : List ℤ} (w : Listed m 0 (lists_of os hs ws) h) (to : ShiftedTo m (lists_of os hs ws) h ws' (get_or os m 0)) where
