@@ -2,6 +2,7 @@
 #![tactic(auto)]
 
 ghost use Rattle.std.specs.Prelude.{◌≡◌, true, false, ◌≤◌, ◌<◌, pos, length, get_or, set};
+ghost use Rattle.std.specs.Result.{is_err, result_unwrap_or};
 ghost use Rattle.clean.specs.Fill.{filled};
 ghost use Rattle.clean.specs.Better.{better_than};
 ghost use Rattle.rows.specs.Rows.{lists_of};
@@ -12,41 +13,26 @@ ghost use Rattle.bellman_ford.specs.Search.{slot_of, Pushed, Safe, ArcRelaxed, F
 
 use table::Map;
 
-// What looking at an arc or at a row leaves: was a path too long, and how many indices wait.
+// A closed walk below zero was met: some path was too long to pass no index twice.
 #[derive(Clone, Copy)]
-struct Turn {
-    negative: bool,
-    size: usize,
-}
+struct NegativeLoop;
 
 // The place of what stands i after the first, in a ring of m places.
+#[tactic(auto, unfolding(crate::specs::Search::slot_of))]
 fn slot(m: usize, head: usize, i: usize) -> usize
     requires { (m ≤ 1024) × (head < m) × (i ≤ m) }
     ensures { result ≡ slot_of m head i }
 {
     let at = head + i;
-    if at < m {
-        return at;
-    }
-    at - m
+    if at < m { at } else { at - m }
 }
 
 // Is n better than what stands there, which may be none?
+#[tactic(auto, unfolding(clean::specs::Better::better_than))]
 fn better(n: i64, old: i64) -> bool
     ensures { result ≡ better_than n old }
 {
-    if whole::lower(clean::NONE_I64, old) {
-        return whole::lower(n, old);
-    }
-    true
-}
-
-// A distance is stored.
-fn store(dist: &mut [i64], v: usize, n: i64)
-    requires { v < length dist.old }
-    ensures { dist.new ≡ set dist.old v n }
-{
-    dist[v] = n;
+    !whole::lower(clean::NONE_I64, old) || whole::lower(n, old)
 }
 
 // The index v goes to the end of the ring, unless it waits there. Gives how many wait.
@@ -69,13 +55,10 @@ fn push(
     queued[v] = 1;
     let at = slot(m, head, size);
     queue[at] = v;
-    if old == 0 {
-        return size + 1;
-    }
-    size
+    if old == 0 { size + 1 } else { size }
 }
 
-// One arc to v, looked at from an index with the distance d and the path length k.
+// One arc to v, looked at from an index with the distance d and the path length k. Gives how many wait.
 fn relax_arc(
     m: usize,
     p: usize,
@@ -89,31 +72,21 @@ fn relax_arc(
     queue: &mut [usize],
     queued: &mut [usize],
     lengths: &mut [usize],
-) -> Turn
+) -> Result<usize, NegativeLoop>
     requires { Safe m d k v cost head size (memory_of dist.old queue.old queued.old lengths.old) }
     ensures { ArcRelaxed m p d k v cost head size
         (memory_of dist.old queue.old queued.old lengths.old)
-        (memory_of dist.new queue.new queued.new lengths.new) result.negative result.size }
+        (memory_of dist.new queue.new queued.new lengths.new) (is_err result) (result_unwrap_or result 0) }
 {
     let n = whole::plus(d, cost);
     if !better(n, dist[v]) {
-        return Turn {
-            negative: false,
-            size: size,
-        };
-    }
-    if p <= k + 1 {
-        return Turn {
-            negative: true,
-            size: size,
-        };
-    }
-    store(dist, v, n);
-    lengths[v] = k + 1;
-    let now_size = push(m, head, size, queue, queued, v);
-    Turn {
-        negative: false,
-        size: now_size,
+        Ok(size)
+    } else if p <= k + 1 {
+        Err(NegativeLoop)
+    } else {
+        dist[v] = n;
+        lengths[v] = k + 1;
+        Ok(push(m, head, size, queue, queued, v))
     }
 }
 
@@ -133,7 +106,7 @@ fn relax_row(
     queue: &mut [usize],
     queued: &mut [usize],
     lengths: &mut [usize],
-) -> Turn
+) -> Result<usize, NegativeLoop>
     requires fit { Fit m p source (lists_of offsets.now heads.now weights.now) }
     requires fact { Open m p source
         (lists_of offsets.now heads.now weights.now) u
@@ -142,31 +115,21 @@ fn relax_row(
     ensures { RowDone m p source
         (lists_of offsets.now heads.now weights.now) head waiting
         (memory_of dist.old queue.old queued.old lengths.old)
-        (memory_of dist.new queue.new queued.new lengths.new) result.negative result.size }
+        (memory_of dist.new queue.new queued.new lengths.new) (is_err result) (result_unwrap_or result 0) }
 {
     let d = dist[u];
     let k = lengths[u];
-    let end = offsets[u + 1];
     let mut size: usize = waiting;
-    let mut i: usize = offsets[u];
-    while i < end {
-        let v = heads[i] as usize;
-        let t = relax_arc(
+    for i in offsets[u]..offsets[u + 1] {
+        let v = usize::from(heads[i]);
+        size = relax_arc(
             m, p, d, k, v, weights[i], head, size, dist, queue, queued, lengths,
-        );
-        if t.negative {
-            return t;
-        }
-        size = t.size;
-        i += 1;
+        )?;
     }
-    Turn {
-        negative: false,
-        size: size,
-    }
+    Ok(size)
 }
 
-// The search from a source that the map has: is a negative closed walk in its reach?
+// The search from a source that the map has. An error where a closed walk below zero is in its reach.
 fn search(
     m: usize,
     p: usize,
@@ -178,22 +141,23 @@ fn search(
     queue: &mut [usize],
     queued: &mut [usize],
     lengths: &mut [usize],
-) -> bool
+) -> Result<(), NegativeLoop>
     requires fit { Fit m p source (lists_of offsets.now heads.now weights.now) }
     requires fresh { Fresh m (memory_of dist.old queue.old queued.old lengths.old) }
     ensures { Searched m source
         (lists_of offsets.now heads.now weights.now)
         (memory_of dist.old queue.old queued.old lengths.old)
-        (memory_of dist.new queue.new queued.new lengths.new) result }
+        (memory_of dist.new queue.new queued.new lengths.new) (is_err result) }
 {
-    store(dist, source, 0);
+    dist[source] = 0;
     let mut size: usize = push(m, 0, 0, queue, queued, source);
     let mut head: usize = 0;
+    // no counting loop: a turn may add indices to the ring, and it goes on until none waits
     while 0 < size {
         let u = queue[head];
         queued[u] = 0;
         head = slot(m, head, 1);
-        let t = relax_row(
+        size = relax_row(
             m,
             p,
             source,
@@ -207,16 +171,13 @@ fn search(
             queue,
             queued,
             lengths,
-        );
-        if t.negative {
-            return true;
-        }
-        size = t.size;
+        )?;
     }
-    false
+    Ok(())
 }
 
 // Is each buffer as long as the part used?
+#[tactic(auto, unfolding(crate::specs::Promise::long_enough))]
 fn long_enough(
     m: usize,
     a: usize,
@@ -232,22 +193,15 @@ fn long_enough(
         queued.now lengths.now in
         result ≡ long_enough m a lent }
 {
-    if !rows::has_lists(m, a, offsets, heads, weights) {
-        return false;
-    }
-    if dist.len() < m {
-        return false;
-    }
-    if queue.len() < m {
-        return false;
-    }
-    if queued.len() < m {
-        return false;
-    }
-    m <= lengths.len()
+    rows::has_lists(m, a, offsets, heads, weights)
+        && m <= dist.len()
+        && m <= queue.len()
+        && m <= queued.len()
+        && m <= lengths.len()
 }
 
 // 1 where a limit is passed or a lent slice is too short, 2 where a link names an index that the map has not, else 0.
+#[tactic(auto, unfolding(crate::specs::Parts::refusal_no))]
 fn refusal(
     map: Map,
     marks: &[u8],
@@ -268,19 +222,25 @@ fn refusal(
         queued.now lengths.now in
         result ≡ refusal_no net lent }
 {
-    if !net::whole(map, marks, from, to, costs) {
-        return 1;
+    if !net::whole(map, marks, from, to, costs)
+        || !long_enough(
+            map.bound,
+            net::most_arcs(map.directed, map.count),
+            dist,
+            offsets,
+            heads,
+            weights,
+            queue,
+            queued,
+            lengths,
+        )
+    {
+        1
+    } else if !net::inside(map, marks, from, to, costs) {
+        2
+    } else {
+        0
     }
-    let a = net::most_arcs(map.directed, map.count);
-    if !long_enough(
-        map.bound, a, dist, offsets, heads, weights, queue, queued, lengths,
-    ) {
-        return 1;
-    }
-    if !net::inside(map, marks, from, to, costs) {
-        return 2;
-    }
-    0
 }
 
 // Zero in the part used of each scratch slice.
@@ -316,7 +276,7 @@ fn prepare(m: usize, queued: &mut [usize], lengths: &mut [usize])
     clean::clear_usize(lengths, m);
 }
 
-// The neighbour list is made, and the search run on it.
+// The neighbour list is made, and the search run on it. The same error.
 fn solve(
     map: Map,
     marks: &[u8],
@@ -331,7 +291,7 @@ fn solve(
     queue: &mut [usize],
     queued: &mut [usize],
     lengths: &mut [usize],
-) -> bool
+) -> Result<(), NegativeLoop>
     requires { Ripe
         (net_of map.bound map.count map.directed marks.now from.now to.now costs.now) source
         (buffers_of dist.old offsets.old heads.old weights.old queue.old queued.old lengths.old) }
@@ -341,7 +301,7 @@ fn solve(
         queued.old lengths.old in
         let left = buffers_of dist.new offsets.new heads.new weights.new queue.new
         queued.new lengths.new in
-        Solved net source lent left result }
+        Solved net source lent left (is_err result) }
 {
     let m = map.bound;
     rows::position_csr(map, from, to, costs, offsets, heads, weights);
@@ -389,13 +349,15 @@ pub fn bellman_ford(
         return 0;
     }
     prepare(m, queued, lengths);
-    let negative = solve(
+    let found = solve(
         map, marks, from, to, costs, source, dist, offsets, heads, weights, queue, queued, lengths,
     );
     wipe(m, a, offsets, heads, weights, queue, queued, lengths);
-    if negative {
-        clean::blank_i64(dist, m);
-        return 7;
+    match found {
+        Ok(()) => 0,
+        Err(NegativeLoop) => {
+            clean::blank_i64(dist, m);
+            7
+        }
     }
-    0
 }

@@ -26,5 +26,5 @@ bounds-queue-at c = omega (arith, below c)
 pub returns-then-old-eq0 : goal.returns-then-old-eq0
 returns-then-old-eq0 c = pushed c.if-old-eq0.true refl (ap (λ (k : ℕ). set c.args.queue.now k c.args.v) c.slot-at.ensures) refl
 
-pub returns : goal.returns
-returns c = waiting (omega (arith, c.if-m-size.false)) c.if-old-eq0.false refl (ap (λ (k : ℕ). set c.args.queue.now k c.args.v) c.slot-at.ensures) refl
+pub returns-else-old-eq0 : goal.returns-else-old-eq0
+returns-else-old-eq0 c = waiting (omega (arith, c.if-m-size.false)) c.if-old-eq0.false refl (ap (λ (k : ℕ). set c.args.queue.now k c.args.v) c.slot-at.ensures) refl
