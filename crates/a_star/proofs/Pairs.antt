@@ -41,7 +41,8 @@ module _ (m : ℕ) (ms : List ℕ) (hs : List ℤ) (a : m ≤ length ms) (b : m 
   all_of zero l f = refl
   all_of (suc k) l f = both_of _ _ (all_of k (omega (arith, l)) f) (f k (omega (arith, l)))
 
-  pub fair_cases : (r : Bool) → MatchBool r (AllWithin (λ p. fair_pair p ≡ true) (pairs m ms hs) 0 (length (pairs m ms hs))) ((k : ℕ) × (k < length (pairs m ms hs)) × HoldsAt (λ p. fair_pair p ≡ false) (pairs m ms hs) k)
+  pub fair_cases : (r : Bool)
+      → MatchBool r (AllWithin (λ p. fair_pair p ≡ true) (pairs m ms hs) 0 (length (pairs m ms hs))) ((k : ℕ) × (k < length (pairs m ms hs)) × HoldsAt (λ p. fair_pair p ≡ false) (pairs m ms hs) k)
       → r ≡ fair_below (present m ms) hs m
   fair_cases true w = sym (all_of m (omega arith) (λ i l. sym (pair_at i l) ∙ w i (0, pos 0) (omega arith) (omega (arith, l, many))))
   fair_cases false (k, l, e) = let i : k < m = omega (arith, l, many) in fair_stop _ _ m k i (sym (pair_at k i) ∙ e (0, pos 0))
