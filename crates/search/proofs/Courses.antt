@@ -16,7 +16,7 @@ use Rattle.whole.specs.Zed.{P, zed}
 use Rattle.clean.specs.None.{none_i64}
 use Rattle.float.specs.Dist.{Dist64}
 use Rattle.float.specs.Cutoff.{past}
-use Rattle.float.specs.declared.Cutoff.TheVariants.{At}
+use Rattle.std.specs.Prelude.{Some}
 use Rattle.float.proofs.Cost.{plus_grows}
 use Rattle.rows.specs.Rows.{Lists}
 use Rattle.rows.specs.RowArc.{RowArc, Sound}
@@ -99,18 +99,18 @@ module _ (q : Asked) (nb : Lists ℤ) where
 module _ (l : Float) (m source : ℕ) (nb : Lists ℕ) where
   -- no index was taken twice, after so many takes
   abbrev pub Keeps64 : (ℕ → Cell ℕ) → ℕ → Type 0
-  Keeps64 = Once (search64 (past (At l)) none source) (laws64 (past (At l)) none source) (λ d v. refl) plus_grows (RowArc m nb)
+  Keeps64 = Once (search64 (past (Some l)) none source) (laws64 (past (Some l)) none source) (λ d v. refl) plus_grows (RowArc m nb)
 
   -- so there were at most m
   few : {s : ℕ → Cell ℕ} {t : ℕ} → Keeps64 s t → Within (upto m) s → t ≤ m
-  few h w = omega (arith, upto_long m, once_few (search64 (past (At l)) none source) (laws64 (past (At l)) none source) (λ d v. refl) plus_grows (RowArc m nb) (upto m) w h)
+  few h w = omega (arith, upto_long m, once_few (search64 (past (Some l)) none source) (laws64 (past (Some l)) none source) (λ d v. refl) plus_grows (RowArc m nb) (upto m) w h)
 
   pub course64 : Sound m nb → source < m → Course (kind64 l) m none source nb Keeps64 Dist64 (λ s t. m - t)
   course64 sound inside = record {
     lawful = floats.lawful l;
     rows = sound;
     inside = inside;
-    first = λ w. begin_once (search64 (past (At l)) none source) (laws64 (past (At l)) none source) (λ d v. refl) plus_grows (RowArc m nb);
-    again = λ h w x w'. let n = next_once (search64 (past (At l)) none source) (laws64 (past (At l)) none source) (λ d v. refl) plus_grows (RowArc m nb) h x in (n, omega (arith, few n w'));
+    first = λ w. begin_once (search64 (past (Some l)) none source) (laws64 (past (Some l)) none source) (λ d v. refl) plus_grows (RowArc m nb);
+    again = λ h w x w'. let n = next_once (search64 (past (Some l)) none source) (laws64 (past (Some l)) none source) (λ d v. refl) plus_grows (RowArc m nb) h x in (n, omega (arith, few n w'));
     few = λ h w. omega (arith, few h w, sound.bounded);
   }

@@ -16,7 +16,7 @@ use Rattle.float.specs.Stored.{Stored}
 use Rattle.float.specs.Stored as stored
 use Rattle.float.specs.Cutoff.{past}
 use Rattle.float.specs.Better.{better_than, better_within}
-use Rattle.float.specs.declared.Cutoff.TheVariants.{At}
+use Rattle.std.specs.Prelude.{Some}
 use Rattle.float.proofs.Cost.{zero_dist, plus_dist}
 use Rattle.float.proofs.BitOrder.{lt64_asym}
 use Rattle.float.proofs.None.{dist_not_none, none_itself}
@@ -42,7 +42,7 @@ read_none = ap (λ (b : Bool). pick b none (some none_f64)) none_itself
 
 pub lawful : (l : Float) → Lawful (kind64 l) Dist64
 lawful l = record {
-  laws = laws64 (past (At l)) none 0;
+  laws = laws64 (past (Some l)) none 0;
   good_ok = λ d p. p;
   good_zero = zero_dist;
   good_plus = plus_dist;
@@ -65,7 +65,7 @@ pub better_at_lem : (limit : Float) (d b : ℕ) {x : ℕ} → x ≡ plus64 d b �
     (kind64 limit) (plus64 d b) (get_or l v none_f64)
 unfolding better_within
 better_at_lem limit d b sum l v h =
-    ap₂ (λ (z : ℕ) (y : Bool). not (past (At limit) z) && y) sum
+    ap₂ (λ (z : ℕ) (y : Bool). not (past (Some limit) z) && y) sum
     (ap (λ (z : ℕ). better_than z (get_or l v 0)) sum ∙ worth_is limit (plus64 d b) (get_or l v 0) ∙ ap (λ (z : ℕ). better_at (kind64 limit) (plus64 d b) z) (no_default l v 0 none_f64 h))
 
 -- ---- what they ask

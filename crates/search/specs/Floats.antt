@@ -7,7 +7,7 @@ use Rattle.clean.specs.None.{none_f64}
 use Rattle.float.specs.Dist.{Dist64, zero64, plus64}
 use Rattle.float.specs.Cost.{bad_cost}
 use Rattle.float.specs.Cutoff.{past}
-use Rattle.float.specs.declared.Cutoff.TheVariants.{At}
+use Rattle.std.specs.Prelude.{Some}
 use Rattle.bag.specs.Floats.{floats}
 use Rattle.bag.specs.Order.{pick}
 use Rattle.turns.specs.Kind.{Kind}
@@ -24,7 +24,7 @@ kind64 limit = record {
   plus = plus64;
   key = λ d v. d;
   bad = bad_cost binary64;
-  cut = past (At limit);
+  cut = past (Some limit);
   blank = none_f64;
   read = read64;
   good = Dist64;
