@@ -33,7 +33,7 @@ use Rattle.rows.specs.RowArc.{RowArc}
 use Rattle.rows.proofs.Kept.{kept_none, kept_set}
 use Rattle.bellman_ford.specs.Search.{Memory, memory_of, KeptMemory, Fit, Label, slot_of, Ring, Good, Calm, Open, Pushed, to_do, RowDone, Fresh, Searched}
 use Rattle.bellman_ford.specs.declared.NegativeLoop.{NegativeLoop}
-use Rattle.bellman_ford.proofs.Ring.{push_done, take_below, take_marked, take_ring}
+use Rattle.bellman_ford.proofs.Waits.{push_done, take_below, take_marked, take_ring}
 use Rattle.bellman_ford.proofs.Labels.{label_new, label_back, label_is, label_kinds}
 use Rattle.bellman_ford.proofs.Arc.{push_marks, push_kept}
 use Rattle.bellman_ford.proofs.Row.{memory_none, memory_more}

@@ -1,17 +1,62 @@
 // Shortest walks from one source over signed costs, with a queue of the indices whose distance just fell.
 #![tactic(auto)]
 
-ghost use Rattle.std.specs.Prelude.{◌≡◌, true, false, ◌≤◌, ◌<◌, pos, length, get_or, set};
+ghost use Rattle.std.specs.Prelude.{◌≡◌, true, false, ◌&&◌, leb, ◌≤◌, ◌<◌, pos, length, get_or, set};
 ghost use Rattle.std.specs.Result.{is_err, result_unwrap_or};
 ghost use Rattle.clean.specs.Fill.{filled};
 ghost use Rattle.clean.specs.Better.{better_than};
-ghost use Rattle.rows.specs.Rows.{lists_of};
-ghost use Rattle.net.specs.Net.{net_of};
-ghost use Rattle.bellman_ford.specs.Promise.{Promise, buffers_of, scratch_of, long_enough, wiped_all};
-ghost use Rattle.bellman_ford.specs.Parts.{refusal_no, EnoughScratch, Ripe, Solved};
+ghost use Rattle.numbers.specs.Refusal.{number_of};
+ghost use Rattle.rows.specs.Rows.{lists_in, SameLists};
+ghost use Rattle.net.specs.Net.{int_net};
+ghost use Rattle.bellman_ford.specs.Promise.{Promise, buffers_in, long_enough};
+ghost use Rattle.bellman_ford.specs.Parts.{refusal_no, EnoughRing, Ripe, Solved, SameRing};
 ghost use Rattle.bellman_ford.specs.Search.{slot_of, Pushed, Safe, ArcRelaxed, Fit, Open, RowDone, Fresh, Searched, memory_of};
 
-use table::Map;
+use net::{Ints, Lent};
+use numbers::Refusal;
+use rows::Lists;
+
+// The lent slices of a search beside the neighbour list: the ring of waiting indices, the marks of those that wait, the path lengths.
+#[derive(Drop)]
+pub struct Ring<'a> {
+    pub queue: &'a mut [usize],
+    pub queued: &'a mut [usize],
+    pub lengths: &'a mut [usize],
+}
+
+impl<'a> Ring<'a> {
+    // Is each slice as long as the part used?
+    fn long_enough(&self, m: usize) -> bool
+        ensures { result ≡ (leb m (length self.now.queue.now)
+            && (leb m (length self.now.queued.now) && leb m (length self.now.lengths.now))) }
+    {
+        m <= self.queue.len() && m <= self.queued.len() && m <= self.lengths.len()
+    }
+
+    // In the part used nothing waits, and no index has a path length.
+    fn prepare(&mut self, m: usize)
+        requires { (m ≤ length self.old.queued.now) × (m ≤ length self.old.lengths.now) }
+        ensures queued { self.new.queued.now ≡ filled m 0 self.old.queued.now }
+        ensures lengths { self.new.lengths.now ≡ filled m 0 self.old.lengths.now }
+        ensures queue { self.new.queue.now ≡ self.old.queue.now }
+        ensures same { SameRing self.old self.new }
+    {
+        clean::fill(self.queued, m, 0);
+        clean::fill(self.lengths, m, 0);
+    }
+
+    // Zero in the part used of each slice.
+    fn wipe(&mut self, m: usize)
+        requires { EnoughRing m self.old }
+        ensures queue { self.new.queue.now ≡ filled m 0 self.old.queue.now }
+        ensures queued { self.new.queued.now ≡ filled m 0 self.old.queued.now }
+        ensures lengths { self.new.lengths.now ≡ filled m 0 self.old.lengths.now }
+        ensures same { SameRing self.old self.new }
+    {
+        clean::fill(self.queue, m, 0);
+        self.prepare(m);
+    }
+}
 
 // A closed walk below zero was met: some path was too long to pass no index twice.
 #[derive(Clone, Copy)]
@@ -99,28 +144,27 @@ fn relax_row(
     u: usize,
     head: usize,
     waiting: usize,
-    offsets: &[usize],
-    heads: &[u16],
-    weights: &[i64],
+    lists: &Lists<i64>,
     dist: &mut [i64],
     queue: &mut [usize],
     queued: &mut [usize],
     lengths: &mut [usize],
 ) -> Result<usize, NegativeLoop>
-    requires fit { Fit m p source (lists_of offsets.now heads.now weights.now) }
+    requires fit { Fit m p source (lists_in lists.now) }
     requires fact { Open m p source
-        (lists_of offsets.now heads.now weights.now) u
-        (get_or dist.old u (pos 0)) (get_or lengths.old u 0) (get_or offsets.now u 0) head waiting
+        (lists_in lists.now) u
+        (get_or dist.old u (pos 0)) (get_or lengths.old u 0) (get_or lists.now.offsets.now u 0) head waiting
         (memory_of dist.old queue.old queued.old lengths.old) }
     ensures { RowDone m p source
-        (lists_of offsets.now heads.now weights.now) head waiting
+        (lists_in lists.now) head waiting
         (memory_of dist.old queue.old queued.old lengths.old)
         (memory_of dist.new queue.new queued.new lengths.new) (is_err result) (result_unwrap_or result 0) }
 {
     let d = dist[u];
     let k = lengths[u];
     let mut size: usize = waiting;
-    for i in offsets[u]..offsets[u + 1] {
+    let (heads, weights) = (&*lists.heads, &*lists.weights);
+    for i in lists.offsets[u]..lists.offsets[u + 1] {
         let v = usize::from(heads[i]);
         size = relax_arc(
             m, p, d, k, v, weights[i], head, size, dist, queue, queued, lengths,
@@ -134,18 +178,16 @@ fn search(
     m: usize,
     p: usize,
     source: usize,
-    offsets: &[usize],
-    heads: &[u16],
-    weights: &[i64],
+    lists: &Lists<i64>,
     dist: &mut [i64],
     queue: &mut [usize],
     queued: &mut [usize],
     lengths: &mut [usize],
 ) -> Result<(), NegativeLoop>
-    requires fit { Fit m p source (lists_of offsets.now heads.now weights.now) }
+    requires fit { Fit m p source (lists_in lists.now) }
     requires fresh { Fresh m (memory_of dist.old queue.old queued.old lengths.old) }
     ensures { Searched m source
-        (lists_of offsets.now heads.now weights.now)
+        (lists_in lists.now)
         (memory_of dist.old queue.old queued.old lengths.old)
         (memory_of dist.new queue.new queued.new lengths.new) (is_err result) }
 {
@@ -164,9 +206,7 @@ fn search(
             u,
             head,
             size - 1,
-            offsets,
-            heads,
-            weights,
+            lists,
             dist,
             queue,
             queued,
@@ -178,186 +218,86 @@ fn search(
 
 // Is each buffer as long as the part used?
 #[tactic(auto, unfolding(crate::specs::Promise::long_enough))]
-fn long_enough(
-    m: usize,
-    a: usize,
-    dist: &[i64],
-    offsets: &[usize],
-    heads: &[u16],
-    weights: &[i64],
-    queue: &[usize],
-    queued: &[usize],
-    lengths: &[usize],
-) -> bool
-    ensures { let lent = buffers_of dist.now offsets.now heads.now weights.now queue.now
-        queued.now lengths.now in
-        result ≡ long_enough m a lent }
+fn long_enough(m: usize, a: usize, dist: &[i64], lists: &Lists<i64>, ring: &Ring) -> bool
+    ensures { result ≡ long_enough m a (buffers_in dist.now lists.now ring.now) }
 {
-    rows::has_lists(m, a, offsets, heads, weights)
-        && m <= dist.len()
-        && m <= queue.len()
-        && m <= queued.len()
-        && m <= lengths.len()
+    lists.long_enough(m, a) && m <= dist.len() && ring.long_enough(m)
 }
 
-// 1 where a limit is passed or a lent slice is too short, 2 where a link names an index that the map has not, else 0.
+// Limit where a limit is passed or a lent slice is too short, Index where a link names an index that the map has not.
 #[tactic(auto, unfolding(crate::specs::Parts::refusal_no))]
-fn refusal(
-    map: Map,
-    marks: &[u8],
-    from: &[u16],
-    to: &[u16],
-    costs: &[i32],
-    dist: &[i64],
-    offsets: &[usize],
-    heads: &[u16],
-    weights: &[i64],
-    queue: &[usize],
-    queued: &[usize],
-    lengths: &[usize],
-) -> usize
-    ensures { let net = net_of map.bound map.count map.directed marks.now from.now to.now
-        costs.now in
-        let lent = buffers_of dist.now offsets.now heads.now weights.now queue.now
-        queued.now lengths.now in
-        result ≡ refusal_no net lent }
+fn refusal(net: Lent<Ints>, dist: &[i64], lists: &Lists<i64>, ring: &Ring) -> Result<(), Refusal>
+    ensures { number_of result ≡ refusal_no (int_net net.entry) (buffers_in dist.now lists.now ring.now) }
 {
-    if !net::whole(map, marks, from, to, costs)
-        || !long_enough(
-            map.bound,
-            net::most_arcs(map.directed, map.count),
-            dist,
-            offsets,
-            heads,
-            weights,
-            queue,
-            queued,
-            lengths,
-        )
-    {
-        1
-    } else if !net::inside(map, marks, from, to, costs) {
-        2
+    if !net.whole() || !long_enough(net.map.bound, net.most_arcs(), dist, lists, ring) {
+        Err(Refusal::Limit)
+    } else if !net.inside() {
+        Err(Refusal::Index)
     } else {
-        0
+        Ok(())
     }
-}
-
-// Zero in the part used of each scratch slice.
-fn wipe(
-    m: usize,
-    a: usize,
-    offsets: &mut [usize],
-    heads: &mut [u16],
-    weights: &mut [i64],
-    queue: &mut [usize],
-    queued: &mut [usize],
-    lengths: &mut [usize],
-)
-    requires { EnoughScratch m a (scratch_of offsets.old heads.old weights.old queue.old queued.old lengths.old) }
-    ensures { let lent = scratch_of offsets.old heads.old weights.old queue.old queued.old
-        lengths.old in
-        let left = scratch_of offsets.new heads.new weights.new queue.new queued.new
-        lengths.new in
-        left ≡ wiped_all m a lent }
-{
-    rows::wipe(m, a, offsets, heads, weights);
-    clean::clear_usize(queue, m);
-    clean::clear_usize(queued, m);
-    clean::clear_usize(lengths, m);
-}
-
-// In the part used nothing waits, and no index has a path length.
-fn prepare(m: usize, queued: &mut [usize], lengths: &mut [usize])
-    requires { (m ≤ length queued.old) × (m ≤ length lengths.old) }
-    ensures { (queued.new ≡ filled m 0 queued.old) × (lengths.new ≡ filled m 0 lengths.old) }
-{
-    clean::clear_usize(queued, m);
-    clean::clear_usize(lengths, m);
 }
 
 // The neighbour list is made, and the search run on it. The same error.
 fn solve(
-    map: Map,
-    marks: &[u8],
-    from: &[u16],
-    to: &[u16],
-    costs: &[i32],
+    net: Lent<Ints>,
     source: usize,
     dist: &mut [i64],
-    offsets: &mut [usize],
-    heads: &mut [u16],
-    weights: &mut [i64],
-    queue: &mut [usize],
-    queued: &mut [usize],
-    lengths: &mut [usize],
+    lists: &mut Lists<i64>,
+    ring: &mut Ring,
 ) -> Result<(), NegativeLoop>
-    requires { Ripe
-        (net_of map.bound map.count map.directed marks.now from.now to.now costs.now) source
-        (buffers_of dist.old offsets.old heads.old weights.old queue.old queued.old lengths.old) }
-    ensures { let net = net_of map.bound map.count map.directed marks.now from.now to.now
-        costs.now in
-        let lent = buffers_of dist.old offsets.old heads.old weights.old queue.old
-        queued.old lengths.old in
-        let left = buffers_of dist.new offsets.new heads.new weights.new queue.new
-        queued.new lengths.new in
-        Solved net source lent left (is_err result) }
+    requires { Ripe (int_net net) source (buffers_in dist.old lists.old ring.old) }
+    ensures solved { Solved (int_net net.entry) source (buffers_in dist.old lists.old ring.old)
+        (buffers_in dist.new lists.new ring.new) (is_err result) }
+    ensures same_lists { SameLists lists.old lists.new }
+    ensures same_ring { SameRing ring.old ring.new }
 {
-    let m = map.bound;
-    rows::position_csr(map, from, to, costs, offsets, heads, weights);
-    let p = net::count_present(m, marks);
+    let m = net.map.bound;
+    rows::position_csr(net, lists);
+    let p = net::count_present(m, net.marks);
     search(
-        m, p, source, offsets, heads, weights, dist, queue, queued, lengths,
+        m,
+        p,
+        source,
+        lists,
+        dist,
+        ring.queue,
+        ring.queued,
+        ring.lengths,
     )
 }
 
 // The least totals from a source. The promise is in specs/Promise.antt.
 pub fn bellman_ford(
-    map: Map,
-    marks: &[u8],
-    from: &[u16],
-    to: &[u16],
-    costs: &[i32],
+    net: Lent<Ints>,
     source: usize,
     dist: &mut [i64],
-    offsets: &mut [usize],
-    heads: &mut [u16],
-    weights: &mut [i64],
-    queue: &mut [usize],
-    queued: &mut [usize],
-    lengths: &mut [usize],
-) -> usize
-    ensures { let net = net_of map.bound map.count map.directed marks.now from.now to.now
-        costs.now in
-        let lent = buffers_of dist.old offsets.old heads.old weights.old queue.old
-        queued.old lengths.old in
-        let left = buffers_of dist.new offsets.new heads.new weights.new queue.new
-        queued.new lengths.new in
-        Promise net source lent left result }
+    lists: &mut Lists<i64>,
+    ring: &mut Ring,
+) -> Result<(), Refusal>
+    ensures promise { Promise (int_net net.entry) source (buffers_in dist.old lists.old ring.old)
+        (buffers_in dist.new lists.new ring.new) (number_of result) }
+    ensures same_lists { SameLists lists.old lists.new }
+    ensures same_ring { SameRing ring.old ring.new }
 {
-    let refused = refusal(
-        map, marks, from, to, costs, dist, offsets, heads, weights, queue, queued, lengths,
-    );
-    if refused != 0 {
-        return refused;
+    refusal(net, dist, lists, ring)?;
+    let m = net.map.bound;
+    let a = net.most_arcs();
+    clean::fill(dist, m, clean::NONE_I64);
+    if !net.has(source) {
+        lists.wipe(m, a, 0);
+        ring.wipe(m);
+        return Ok(());
     }
-    let m = map.bound;
-    let a = net::most_arcs(map.directed, map.count);
-    clean::blank_i64(dist, m);
-    if !net::has_index(m, marks, source) {
-        wipe(m, a, offsets, heads, weights, queue, queued, lengths);
-        return 0;
-    }
-    prepare(m, queued, lengths);
-    let found = solve(
-        map, marks, from, to, costs, source, dist, offsets, heads, weights, queue, queued, lengths,
-    );
-    wipe(m, a, offsets, heads, weights, queue, queued, lengths);
+    ring.prepare(m);
+    let found = solve(net, source, dist, lists, ring);
+    lists.wipe(m, a, 0);
+    ring.wipe(m);
     match found {
-        Ok(()) => 0,
+        Ok(()) => Ok(()),
         Err(NegativeLoop) => {
-            clean::blank_i64(dist, m);
-            7
+            clean::fill(dist, m, clean::NONE_I64);
+            Err(Refusal::Negative)
         }
     }
 }

@@ -4,76 +4,77 @@
 -- the search stands at the head of proofs/Turns.antt.
 -- Assumes nothing.
 use mathlib.Core.Path.{sym, ap, ◌∙◌}
-use Rattle.net.proofs.Bounds.{whole_ints}
-use Rattle.rows.specs.Rows.{lists_of}
 use Rattle.std.specs.Result.{is_err}
+use Rattle.numbers.proofs.Refused.{refused_ne0, number_handed_on}
+use Rattle.net.proofs.Bounds.{whole_ints}
+use Rattle.rows.specs.Rows.{lists_in}
 use Rattle.bellman_ford.proofs.Refusals.{refused, passed}
 use Rattle.bellman_ford.proofs.Answers.{room_first, answer_unknown, ripe, room_second, dist_room, answer_negative, answer_done}
 use Rattle.bellman_ford.proofs.bellman_ford.Goals as goal
 
-pub returns-then-refused-ne0 : goal.returns-then-refused-ne0
-returns-then-refused-ne0 c = refused _ _ _ _ c.refusal-refused.ensures c.if-refused-ne0.true
+pub returns-in_err-refusal-clause-promise : goal.returns-in_err-refusal-clause-promise
+returns-in_err-refusal-clause-promise c =
+    let e = number_handed_on _ _ c.from_residual.ensures.1 in
+    refused _ _ _ _ (e ∙ c.in_err-refusal.ensures) (λ z. refused_ne0 _ (sym e ∙ z))
 
 pub most_arcs-a-requires : goal.most_arcs-a-requires
-most_arcs-a-requires c =
-    let v = c.args in
-    (whole_ints v.map.bound v.map.count v.map.directed v.marks.now v.from.now v.to.now v.costs.now
-    (passed _ _ (sym c.refusal-refused.ensures ∙ c.if-refused-ne0.false)).whole).links
+most_arcs-a-requires c = (whole_ints _ _ c.args.net.map.directed _ _ _ _ (passed _ _ (sym c.in_ok-refusal.ensures)).whole).links
 
-pub blank_i64-requires : goal.blank_i64-requires
-blank_i64-requires c = (passed _ _ (sym c.refusal-refused.ensures ∙ c.if-refused-ne0.false)).dist
+pub fill-requires : goal.fill-requires
+fill-requires c = (passed _ _ (sym c.in_ok-refusal.ensures)).dist
 
-pub has_index-requires : goal.has_index-requires
-has_index-requires c = (passed _ _ (sym c.refusal-refused.ensures ∙ c.if-refused-ne0.false)).marked
+pub has-requires : goal.has-requires
+has-requires c = (passed _ _ (sym c.in_ok-refusal.ensures)).marked
 
 pub wipe-requires : goal.wipe-requires
-wipe-requires c = room_first (passed _ _ (sym c.refusal-refused.ensures ∙ c.if-refused-ne0.false)) c.most_arcs-a.ensures
+wipe-requires c = (room_first (passed _ _ (sym c.in_ok-refusal.ensures)) c.most_arcs-a.ensures).rows
 
-pub returns-then-not-has_index : goal.returns-then-not-has_index
-returns-then-not-has_index c = answer_unknown (passed _ _ (sym c.refusal-refused.ensures ∙ c.if-refused-ne0.false)) c.most_arcs-a.ensures
-    (sym c.if-not-has_index.ensures) c.blank_i64.ensures c.wipe.ensures
+pub wipe-requires-then-not-has : goal.wipe-requires-then-not-has
+wipe-requires-then-not-has c =
+    let r = room_first (passed _ _ (sym c.in_ok-refusal.ensures)) c.most_arcs-a.ensures in
+    (r.queue, r.queued, r.lengths)
+
+pub returns-then-not-has-clause-promise : goal.returns-then-not-has-clause-promise
+returns-then-not-has-clause-promise c = answer_unknown (passed _ _ (sym c.in_ok-refusal.ensures)) c.most_arcs-a.ensures (sym c.if-not-has.ensures) c.fill.ensures
+    (λ i. record { rows = c.wipe.ensures.wiped i; queue = c.wipe-then-not-has.ensures.queue i; queued = c.wipe-then-not-has.ensures.queued i; lengths = c.wipe-then-not-has.ensures.lengths i })
 
 pub prepare-requires : goal.prepare-requires
 prepare-requires c =
-    let r = (passed _ _ (sym c.refusal-refused.ensures ∙ c.if-refused-ne0.false)).room in
+    let r = (passed _ _ (sym c.in_ok-refusal.ensures)).room in
     (r.queued, r.lengths)
 
 pub solve-found-requires : goal.solve-found-requires
-solve-found-requires c =
-    let v = c.args in
-    ripe (passed _ _ (sym c.refusal-refused.ensures ∙ c.if-refused-ne0.false)) c.most_arcs-a.ensures
-    c.blank_i64.ensures
-    (λ i. record { rows = lists_of v.offsets.now v.heads.now v.weights.now; queue = v.queue.now; queued = c.prepare.ensures.0 i; lengths = c.prepare.ensures.1 i })
-    (sym c.if-not-has_index.ensures)
+solve-found-requires c = ripe (passed _ _ (sym c.in_ok-refusal.ensures)) c.most_arcs-a.ensures c.fill.ensures
+    (λ i. record { rows = lists_in c.args.lists.now; queue = c.prepare.ensures.queue i; queued = c.prepare.ensures.queued i; lengths = c.prepare.ensures.lengths i })
+    (sym c.if-not-has.ensures)
 
 pub wipe-requires-2 : goal.wipe-requires-2
-wipe-requires-2 c =
-    let v = c.args in
-    room_second (passed _ _ (sym c.refusal-refused.ensures ∙ c.if-refused-ne0.false)) c.most_arcs-a.ensures
-    c.blank_i64.ensures
-    (λ i. record { rows = lists_of v.offsets.now v.heads.now v.weights.now; queue = v.queue.now; queued = c.prepare.ensures.0 i; lengths = c.prepare.ensures.1 i })
-    (sym c.if-not-has_index.ensures) c.solve-found.ensures
+wipe-requires-2 c = (room_second (passed _ _ (sym c.in_ok-refusal.ensures)) c.most_arcs-a.ensures c.fill.ensures
+    (λ i. record { rows = lists_in c.args.lists.now; queue = c.prepare.ensures.queue i; queued = c.prepare.ensures.queued i; lengths = c.prepare.ensures.lengths i })
+    (sym c.if-not-has.ensures) c.solve-found.ensures.solved).rows
 
-pub blank_i64-requires-in-Err : goal.blank_i64-requires-in-Err
-blank_i64-requires-in-Err c =
-    let v = c.args in
-    dist_room (passed _ _ (sym c.refusal-refused.ensures ∙ c.if-refused-ne0.false)) c.most_arcs-a.ensures
-    c.blank_i64.ensures
-    (λ i. record { rows = lists_of v.offsets.now v.heads.now v.weights.now; queue = v.queue.now; queued = c.prepare.ensures.0 i; lengths = c.prepare.ensures.1 i })
-    (sym c.if-not-has_index.ensures) c.solve-found.ensures
+pub wipe-requires-3 : goal.wipe-requires-3
+wipe-requires-3 c =
+    let r = room_second (passed _ _ (sym c.in_ok-refusal.ensures)) c.most_arcs-a.ensures c.fill.ensures
+    (λ i. record { rows = lists_in c.args.lists.now; queue = c.prepare.ensures.queue i; queued = c.prepare.ensures.queued i; lengths = c.prepare.ensures.lengths i })
+    (sym c.if-not-has.ensures) c.solve-found.ensures.solved in
+    (r.queue, r.queued, r.lengths)
 
-pub returns-in-Err : goal.returns-in-Err
-returns-in-Err c =
-    let v = c.args in
-    answer_negative (passed _ _ (sym c.refusal-refused.ensures ∙ c.if-refused-ne0.false)) c.most_arcs-a.ensures
-    c.blank_i64.ensures
-    (λ i. record { rows = lists_of v.offsets.now v.heads.now v.weights.now; queue = v.queue.now; queued = c.prepare.ensures.0 i; lengths = c.prepare.ensures.1 i })
-    (sym c.if-not-has_index.ensures) c.solve-found.ensures c.wipe-2.ensures (ap is_err c.in-Err.is) c.blank_i64-in-Err.ensures
+pub fill-requires-in-Err : goal.fill-requires-in-Err
+fill-requires-in-Err c = dist_room (passed _ _ (sym c.in_ok-refusal.ensures)) c.most_arcs-a.ensures c.fill.ensures
+    (λ i. record { rows = lists_in c.args.lists.now; queue = c.prepare.ensures.queue i; queued = c.prepare.ensures.queued i; lengths = c.prepare.ensures.lengths i })
+    (sym c.if-not-has.ensures) c.solve-found.ensures.solved
 
-pub returns-in-Ok : goal.returns-in-Ok
-returns-in-Ok c =
-    let v = c.args in
-    answer_done (passed _ _ (sym c.refusal-refused.ensures ∙ c.if-refused-ne0.false)) c.most_arcs-a.ensures
-    c.blank_i64.ensures
-    (λ i. record { rows = lists_of v.offsets.now v.heads.now v.weights.now; queue = v.queue.now; queued = c.prepare.ensures.0 i; lengths = c.prepare.ensures.1 i })
-    (sym c.if-not-has_index.ensures) c.solve-found.ensures c.wipe-2.ensures (ap is_err c.in-Ok.is)
+pub returns-in-Err-clause-promise : goal.returns-in-Err-clause-promise
+returns-in-Err-clause-promise c = answer_negative (passed _ _ (sym c.in_ok-refusal.ensures)) c.most_arcs-a.ensures c.fill.ensures
+    (λ i. record { rows = lists_in c.args.lists.now; queue = c.prepare.ensures.queue i; queued = c.prepare.ensures.queued i; lengths = c.prepare.ensures.lengths i })
+    (sym c.if-not-has.ensures) c.solve-found.ensures.solved
+    (λ i. record { rows = c.wipe-2.ensures.wiped i; queue = c.wipe-3.ensures.queue i; queued = c.wipe-3.ensures.queued i; lengths = c.wipe-3.ensures.lengths i })
+    (ap is_err c.in-Err.is) c.fill-in-Err.ensures
+
+pub returns-in-Ok-clause-promise : goal.returns-in-Ok-clause-promise
+returns-in-Ok-clause-promise c = answer_done (passed _ _ (sym c.in_ok-refusal.ensures)) c.most_arcs-a.ensures c.fill.ensures
+    (λ i. record { rows = lists_in c.args.lists.now; queue = c.prepare.ensures.queue i; queued = c.prepare.ensures.queued i; lengths = c.prepare.ensures.lengths i })
+    (sym c.if-not-has.ensures) c.solve-found.ensures.solved
+    (λ i. record { rows = c.wipe-2.ensures.wiped i; queue = c.wipe-3.ensures.queue i; queued = c.wipe-3.ensures.queued i; lengths = c.wipe-3.ensures.lengths i })
+    (ap is_err c.in-Ok.is)

@@ -5,7 +5,7 @@ use Prim.Native.Nat.{ℕ, ◌<◌}
 use native.Mathlib.Omega.{arith}
 use lib.ListN.{set}
 use Rattle.bellman_ford.specs.Search.{full, waiting, pushed}
-use Rattle.bellman_ford.proofs.Ring.{slot_below}
+use Rattle.bellman_ford.proofs.Waits.{slot_below}
 use borrow.Author.Rules.{rules}
 use Rattle.bellman_ford.proofs.push.Goals as goal
 use Rattle.bellman_ford.proofs.push.Goals.{After-slot-at}

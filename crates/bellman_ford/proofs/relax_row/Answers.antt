@@ -14,14 +14,14 @@ use Rattle.bellman_ford.proofs.relax_row.Goals.{In-loop-i}
 
 -- a place of the row is a place of the neighbour list
 module _ (c : In-loop-i) where
-  in_heads : c.loop-i.i < length c.args.heads.now
+  in_heads : c.loop-i.i < length c.args.lists.now.heads.now
   in_heads = omega (
     arith,
     c.requires.fit.sound.heads
         c.args.u c.loop-i.invariant.state.index,
   )
 
-  in_weights : c.loop-i.i < length c.args.weights.now
+  in_weights : c.loop-i.i < length c.args.lists.now.weights.now
   in_weights = omega (
     arith,
     c.requires.fit.sound.weights
