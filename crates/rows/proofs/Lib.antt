@@ -1,6 +1,5 @@
 pub mod Back
 pub mod Sums
-pub mod Over
 pub mod Counts
 pub mod Places
 pub mod Ended
@@ -11,3 +10,4 @@ pub mod Graph
 pub mod Kept
 pub mod One
 pub mod Maps
+pub mod Floats

@@ -1,30 +1,343 @@
-// The search: the pending bag of document 01 over a neighbour list, with two kinds of keys.
-// What the two share is proved once, over the kind of key (turns).
+// The search: the pending bag of document 01 over a neighbour list, by a rule: a heuristic over i64 costs, or a cutoff over f64 costs.
+// What it promises is said once, over the kind of search that the rule is (turns).
 #![tactic(auto)]
 
-ghost use Rattle.std.specs.Prelude.{◌≡◌, ◌<◌, length, set};
+ghost use Rattle.std.specs.Prelude.{◌≡◌, false, ◌⊎◌, ◌-◌, ◌<◌, length, get_or, set, MatchOption};
+ghost use Rattle.std.proofs.Math.Option.{none};
+ghost use Rattle.bag.specs.Bag.{Bag};
+ghost use Rattle.bag.specs.Content.{content_of, IsLeast};
+ghost use Rattle.clean.specs.Fill.{filled};
+ghost use Rattle.clean.specs.None.{none_u32};
+ghost use Rattle.rows.specs.Rows.{lists_in};
+ghost use Rattle.numbers.specs.declared.Refusal.TheVariants.{BadCost as Bad};
+ghost use Rattle.rows.specs.RowArc.{RowArc};
+ghost use Rattle.turns.specs.Kind.{Kind, ordered};
+ghost use Rattle.turns.specs.Asks.{Asks, InRange, RowInRange};
+ghost use Rattle.turns.specs.Memory.{memory_of, Fresh};
+ghost use Rattle.turns.specs.Row.{worth, Safe, Looked, Opens, BadArc, RowDone};
+ghost use Rattle.turns.specs.Searched.{Started, Searched};
+ghost use Rattle.turns.specs.Firsts.{EnoughMemory, KeptMemory, Ran};
+ghost use Rattle.turns.proofs.Right.{Way, Right};
+ghost use Rattle.search.specs.Target.{target_in};
+ghost use Rattle.search.specs.Found.{number_of, takes_of};
+ghost use Rattle.search.specs.Runs.{Cheap, ToAll};
+ghost use Rattle.search.specs.Lists.{has_memory, wiped_with, memory_in, SameMemory};
 
-pub mod floats;
-pub mod ints;
+use bag::Key;
+use numbers::Refusal;
+use rows::Lists;
 
-// What a search ends in: 0, or 6 where a bad cost was met; and how many pairs were taken and not dropped.
-#[derive(Clone, Copy)]
-pub struct Found {
-    pub number: usize,
+mod floats;
+mod ints;
+
+pub use floats::Limited;
+pub use ints::Guided;
+
+// A bad cost was met, after so many pairs were taken.
+#[derive(Clone, Copy, Debug, PartialEq, Eq)]
+pub struct BadCost {
     pub takes: usize,
 }
 
-// What looking at a row leaves: was a cost bad, and how many pairs are pending.
-#[derive(Clone, Copy)]
-pub struct Turn {
-    pub bad: bool,
-    pub size: usize,
+// As a refusal it is 6.
+impl From<BadCost> for Refusal {
+    ghost from_gives = { λ _ e. e ≡ Bad };
+
+    fn from(_bad: BadCost) -> Refusal {
+        Refusal::BadCost
+    }
 }
 
-// A predecessor is stored.
-fn set_pred(preds: &mut [u32], v: usize, u: u32)
-    requires { v < length preds.old }
-    ensures { preds.new ≡ set preds.old v u }
+// The rule of a search.
+pub trait Rule: Copy {
+    type Key: Key;
+
+    type Cost: Copy;
+
+    ghost kind: { Self → Kind Self.Key Self.Cost };
+
+    ghost asks: { Self → Asks Self.Key Self.Cost };
+
+    ghost way: { Self → Way Self.Key Self.Cost };
+
+    // The entry of no distance.
+    fn none(self) -> Self::Key
+        ensures { result ≡ (kind self).blank };
+
+    // The distance of the source.
+    fn zero(self) -> Self::Key
+        ensures { result ≡ (kind self).zero };
+
+    // Does a cost stop the search?
+    fn is_bad(self, cost: Self::Cost) -> bool
+        ensures { result ≡ (kind self).bad cost };
+
+    // A distance and a cost, added.
+    fn plus(self, d: Self::Key, cost: Self::Cost) -> Self::Key
+        requires good { (kind self).good d }
+        requires cost { (kind self).bad cost ≡ false }
+        requires in_range { (asks self).sum d cost }
+        ensures { result ≡ (kind self).plus d cost };
+
+    // Is a total to be stored over what is there?
+    fn is_better(self, next: Self::Key, stored: Self::Key) -> bool
+        requires good { (kind self).good next }
+        requires stored { (stored ≡ (kind self).blank) ⊎ (kind self).good stored }
+        ensures { result ≡ worth (ordered Self.Key.kind (kind self)) next stored };
+
+    // The key of v at the distance d.
+    fn key(self, d: Self::Key, v: usize) -> Self::Key
+        requires { (asks self).key d v }
+        ensures { result ≡ (kind self).key d v };
+
+    ghost right: { (r : Self) → Right (ordered Self.Key.kind (kind r)) (asks r) (way r) };
+}
+
+// What a search writes: distances and predecessors, and the bag's lists.
+#[derive(Drop)]
+pub struct Memory<'a, K> {
+    pub dist: &'a mut [K],
+    pub preds: &'a mut [u32],
+    pub peaks: &'a mut [usize],
+    pub words: &'a mut [usize],
+    pub keys: &'a mut [K],
+}
+
+impl<'a, K: Copy> Memory<'a, K> {
+    // Has each list m entries?
+    #[tactic(auto, unfolding(crate::specs::Lists::has_memory))]
+    pub fn long_enough(&self, m: usize) -> bool
+        ensures { result ≡ has_memory m (memory_in self.now) }
+    {
+        m <= self.dist.len()
+            && m <= self.preds.len()
+            && m <= self.peaks.len()
+            && m <= self.words.len()
+            && m <= self.keys.len()
+    }
+
+    // Zero in the first m entries of each list, of which it is told for the distances and the keys.
+    pub fn wipe(&mut self, m: usize, zero: K)
+        requires { EnoughMemory m (memory_in self.old) }
+        ensures wiped { memory_in self.new ≡ wiped_with zero m (memory_in self.old) }
+        ensures same { SameMemory self.old self.new }
+    {
+        clean::fill(self.dist, m, zero);
+        clean::fill(self.preds, m, 0);
+        clean::fill(self.peaks, m, 0);
+        clean::fill(self.words, m, 0);
+        clean::fill(self.keys, m, zero);
+    }
+
+    // Nothing has a distance and nothing is pending, in the first m entries.
+    fn clear(&mut self, m: usize, blank: K)
+        requires { EnoughMemory m (memory_in self.old) }
+        ensures dist { self.new.dist.now ≡ filled m blank self.old.dist.now }
+        ensures preds { self.new.preds.now ≡ filled m none_u32 self.old.preds.now }
+        ensures peaks { self.new.peaks.now ≡ filled m 0 self.old.peaks.now }
+        ensures words { self.new.words.now ≡ filled m 0 self.old.words.now }
+        ensures keys { self.new.keys.now ≡ self.old.keys.now }
+        ensures long { EnoughMemory m (memory_in self.new) }
+        ensures same { SameMemory self.old self.new }
+    {
+        clean::fill(self.dist, m, blank);
+        clean::fill(self.preds, m, clean::NONE_U32);
+        clean::fill(self.peaks, m, 0);
+        clean::fill(self.words, m, 0);
+    }
+}
+
+// Takes the least pair out of the bag, of which the keys stay, and gives its index.
+fn take_least<K: Key>(peaks: &mut [usize], words: &mut [usize], keys: &mut [K], n: usize) -> usize
+    requires bag { Bag K.kind peaks.old words.old keys.old n }
+    requires n_nonzero { 0 < n }
+    ensures least { IsLeast K.kind.lt (content_of words.old keys.old) (get_or keys.old result K.kind.none) result }
+    ensures bag_2 { Bag K.kind peaks.new words.new keys.old (n - 1) }
+    ensures keys_after { content_of words.new keys.old ≡ set (content_of words.old keys.old) result none }
+    ensures kept { keys.new ≡ keys.old }
 {
-    preds[v] = u;
+    bag::take_least(peaks, words, keys, n)
+}
+
+// One arc to v, whose cost is good, looked at from u at the distance d. Gives how many pairs are pending then.
+fn look_arc<R: Rule>(
+    rule: R,
+    u: usize,
+    d: R::Key,
+    v: usize,
+    cost: R::Cost,
+    size: usize,
+    memory: &mut Memory<R::Key>,
+) -> usize
+    requires safe { Safe (ordered R.Key.kind (R.kind rule)) u d v cost size (memory_in memory.old) }
+    requires in_range { InRange (ordered R.Key.kind (R.kind rule)) (R.asks rule) d v cost }
+    ensures looked { Looked (ordered R.Key.kind (R.kind rule)) u d v cost size
+        (memory_in memory.old) (memory_in memory.new) result }
+    ensures long { length memory.new.words.now ≡ length memory.old.words.now }
+    ensures same { SameMemory memory.old memory.new }
+{
+    let next = rule.plus(d, cost);
+    if rule.is_better(next, memory.dist[v]) {
+        memory.dist[v] = next;
+        memory.preds[v] = u as u32;
+        let k = rule.key(next, v);
+        bag::push_or_lower(memory.peaks, memory.words, memory.keys, size, v, k)
+    } else {
+        size
+    }
+}
+
+// Every arc of the row of u, which was taken from the bag. Gives how many pairs are pending then, or none where a cost was bad.
+fn look_row<'a, 'b, R: Rule>(
+    rule: R,
+    m: usize,
+    u: usize,
+    pending: usize,
+    lists: &Lists<'a, R::Cost>,
+    memory: &mut Memory<'b, R::Key>,
+) -> Option<usize>
+    requires opens { Opens (ordered R.Key.kind (R.kind rule)) m (lists_in lists.now) u pending (memory_in memory.old) }
+    requires row_in_range { RowInRange (ordered R.Key.kind (R.kind rule)) (R.asks rule) m (lists_in lists.now) u
+        (get_or memory.old.dist.now u (R.kind rule).blank) }
+    ensures row { let kind = ordered R.Key.kind (R.kind rule) in
+        let arcs = lists_in lists.now in
+        MatchOption result (BadArc kind m arcs u)
+        (RowDone kind m arcs u (memory_in memory.old) (memory_in memory.new)) }
+    ensures same { SameMemory memory.old memory.new }
+{
+    let d = memory.dist[u];
+    let mut size = pending;
+    for i in lists.offsets[u]..lists.offsets[u + 1] {
+        let cost = lists.weights[i];
+        if rule.is_bad(cost) {
+            return None;
+        }
+        let v = usize::from(lists.heads[i]);
+        size = look_arc(rule, u, d, v, cost, size, memory);
+    }
+    Some(size)
+}
+
+// The source alone, pending. Gives how many pairs are pending then: one.
+fn start<R: Rule>(rule: R, source: usize, memory: &mut Memory<R::Key>) -> usize
+    requires in_range { (R.asks rule).key (R.kind rule).zero source }
+    requires fresh { Fresh (ordered R.Key.kind (R.kind rule)) (length memory.old.words.now) (memory_in memory.old) }
+    requires source_in_bounds { source < length memory.old.words.now }
+    ensures started { Started (ordered R.Key.kind (R.kind rule)) source (memory_in memory.old) (memory_in memory.new) result }
+    ensures long { length memory.new.words.now ≡ length memory.old.words.now }
+    ensures same { SameMemory memory.old memory.new }
+{
+    let zero = rule.zero();
+    memory.dist[source] = zero;
+    memory.preds[source] = clean::NONE_U32;
+    let k = rule.key(zero, source);
+    bag::push_or_lower(memory.peaks, memory.words, memory.keys, 0, source, k)
+}
+
+// The search from a source, to a target if one is given that is below m.
+fn search<'a, 'b, R: Rule>(
+    rule: R,
+    m: usize,
+    source: usize,
+    target: Option<usize>,
+    lists: &Lists<'a, R::Cost>,
+    memory: &mut Memory<'b, R::Key>,
+) -> Result<usize, BadCost>
+    requires fit { (R.asks rule).fit m source target (lists_in lists.now) }
+    requires fresh { Fresh (ordered R.Key.kind (R.kind rule)) m (memory_in memory.old) }
+    ensures searched { Searched (ordered R.Key.kind (R.kind rule)) m (target_in m target) source
+        (lists_in lists.now) (memory_in memory.new) (number_of result) (takes_of result) }
+    ensures same { SameMemory memory.old memory.new }
+{
+    let mut size = start(rule, source, memory);
+    let mut takes: usize = 0;
+    // a worklist, until nothing is pending
+    while 0 < size {
+        let u = take_least(memory.peaks, memory.words, memory.keys, size);
+        takes += 1;
+        if target == Some(u) {
+            return Ok(takes);
+        }
+        match look_row(rule, m, u, size - 1, lists, memory) {
+            Some(left) => size = left,
+            None => return Err(BadCost { takes }),
+        }
+    }
+    Ok(takes)
+}
+
+// The same over lists of just the entries used, which become the memory.
+fn search_part<'a, 'b, R: Rule>(
+    rule: R,
+    m: usize,
+    source: usize,
+    target: Option<usize>,
+    lists: &Lists<'a, R::Cost>,
+    dist: &'b mut [R::Key],
+    preds: &'b mut [u32],
+    peaks: &'b mut [usize],
+    words: &'b mut [usize],
+    keys: &'b mut [R::Key],
+) -> Result<usize, BadCost>
+    requires fit { (R.asks rule).fit m source target (lists_in lists.now) }
+    requires fresh { Fresh (ordered R.Key.kind (R.kind rule)) m (memory_of dist.old preds.old peaks.old words.old keys.old) }
+    ensures { Searched (ordered R.Key.kind (R.kind rule)) m (target_in m target) source
+        (lists_in lists.now) (memory_of dist.new preds.new peaks.new words.new keys.new) (number_of result) (takes_of result) }
+{
+    let mut memory = Memory {
+        dist,
+        preds,
+        peaks,
+        words,
+        keys,
+    };
+    search(rule, m, source, target, lists, &mut memory)
+}
+
+// The search on the first m entries of each list, whatever they hold, to a target if one is given that is below m. Gives how many pairs
+// were taken and not dropped.
+pub fn run<'a, 'b, R: Rule>(
+    rule: R,
+    m: usize,
+    source: usize,
+    target: Option<usize>,
+    lists: &Lists<'a, R::Cost>,
+    memory: &mut Memory<'b, R::Key>,
+) -> Result<usize, BadCost>
+    requires fit { (R.asks rule).fit m source target (lists_in lists.now) }
+    requires enough_memory { EnoughMemory m (memory_in memory.old) }
+    ensures ran { Ran (ordered R.Key.kind (R.kind rule)) m (target_in m target) source
+        (lists_in lists.now) (memory_in memory.old) (memory_in memory.new) (number_of result) (takes_of result) }
+    ensures same { SameMemory memory.old memory.new }
+{
+    memory.clear(m, rule.none());
+    search_part(
+        rule,
+        m,
+        source,
+        target,
+        lists,
+        &mut memory.dist[..m],
+        &mut memory.preds[..m],
+        &mut memory.peaks[..m],
+        &mut memory.words[..m],
+        &mut memory.keys[..m],
+    )
+}
+
+// The least totals from a source to all indices below m: no heuristic, no target.
+pub fn to_all<'a, 'b>(
+    m: usize,
+    source: usize,
+    lists: &Lists<'a, i64>,
+    memory: &mut Memory<'b, i64>,
+) -> Result<usize, BadCost>
+    requires cheap { Cheap m (lists_in lists.now) }
+    requires source_lt_m { (source < m) × EnoughMemory m (memory_in memory.old) }
+    ensures to_all { ToAll (RowArc m (lists_in lists.now)) m source memory.old.dist.now memory.new.dist.now (number_of result) }
+    ensures kept_memory { KeptMemory m (memory_in memory.old) (memory_in memory.new) }
+    ensures same { SameMemory memory.old memory.new }
+{
+    let rule = Guided { guess: &[0] };
+    run(rule, m, source, None, lists, memory)
 }
