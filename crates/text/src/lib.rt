@@ -156,7 +156,7 @@ pub fn print_distances(out: &mut [u8], at: usize, bound: usize, marks: &[u8], di
 {
     let mut next = at;
     for i in 0..bound {
-        if net::has_index(bound, marks, i) {
+        if table::is_present(bound, marks, i) {
             next = print_distance(out, next, dist, i);
         }
     }
@@ -220,7 +220,7 @@ pub fn print_rows<E: Entry>(
     let mut next = at;
     let mut rest = matrix;
     for i in 0..bound {
-        if net::has_index(bound, marks, i) {
+        if table::is_present(bound, marks, i) {
             let (row, after) = rest.split_at(p);
             next = print_row(out, next, i, row);
             rest = after;
@@ -281,7 +281,7 @@ pub fn print_tree(
 {
     let mut next = at;
     for i in 0..bound {
-        if net::has_index(bound, marks, i) {
+        if table::is_present(bound, marks, i) {
             next = print_reached(out, next, dist, preds, i);
         }
     }
