@@ -25,7 +25,7 @@ def listed(parameters):
 
 def in_c(parameter):
     """The C parameters of one that is proved: a slice is a pointer and a length, a place a pointer."""
-    name, kind = parameter.replace("&'a ", '&').split(': ')
+    name, kind = parameter.split(': ')
     m = re.fullmatch(r'(&mut |&)?(\[)?(\w+)\]?', kind)
     reference, slice_, element = m.groups()
     if slice_:
@@ -36,11 +36,11 @@ def in_c(parameter):
 
 def called(function, parameter):
     """A parameter that is proved, as those who call have it."""
-    name, kind = parameter.replace("&'a ", '&').split(': ')
-    return f'{name}: {kind.replace("[u64]", "[f64]")}' if (function, name) in DOUBLES else f'{name}: {kind}'
+    name, kind = parameter.split(': ')
+    return f'{name}: {kind.replace("[u64]", "[f64]")}' if (function, name) in DOUBLES else parameter
 
 
-proved = {name: (listed(ps), r) for name, ps, r in re.findall(r'#\[unsafe\(no_mangle\)\]\s*pub extern "C" fn (\w+)(?:<.a>)?\(([^)]*)\) -> (\w+)', text('crates/dimetumble_c/src/lib.rt'))}
+proved = {name: (listed(ps), r) for name, ps, r in re.findall(r'#\[unsafe\(no_mangle\)\]\s*pub extern "C" fn (\w+)(?:<.a>)?\(([^)]*)\) -> (\w+)', text('crates/dimetumble_c/src/lib.rt').replace("&'a ", '&'))}
 header = {name: (listed(ps), r) for r, name, ps in re.findall(r'(\w+) (dimetumble_\w+)\(([^)]*)\);', re.sub(r'/\*.*?\*/', '', text('include/dimetumble.h'), flags=re.S))}
 rust = {name: listed(ps) for name, ps in re.findall(r'native!\(\w+ = (\w+)\(([^)]*)\)\);', text('bindings/rust/src/native.rs'))}
 
