@@ -53,12 +53,10 @@ fn put_line(
     preds: &[u32; 3],
 ) -> io::Result<()> {
     print!(rt; "{name} {number}")?;
-    put_distance(rt, dist[0])?;
-    put_predecessor(rt, preds[0])?;
-    put_distance(rt, dist[1])?;
-    put_predecessor(rt, preds[1])?;
-    put_distance(rt, dist[2])?;
-    put_predecessor(rt, preds[2])?;
+    for (d, u) in dist.iter().zip(preds) {
+        put_distance(rt, *d)?;
+        put_predecessor(rt, *u)?;
+    }
     println!(rt;)
 }
 
@@ -142,7 +140,7 @@ fn cutoffs(rt: &impl Print) -> io::Result<()> {
         "cutoff-minus-infinity",
         ZERO,
         ONE,
-        Cutoff::At(-1.0 / 0.0),
+        Cutoff::At(f64::NEG_INFINITY),
     )?;
     // No cutoff, +infinity and a NaN of either sign cut nothing.
     chain(rt, "cutoff-none", ONE_AND_HALF, ONE, Cutoff::None)?;
@@ -151,15 +149,15 @@ fn cutoffs(rt: &impl Print) -> io::Result<()> {
         "cutoff-infinity",
         ONE_AND_HALF,
         ONE,
-        Cutoff::At(1.0 / 0.0),
+        Cutoff::At(f64::INFINITY),
     )?;
-    chain(rt, "cutoff-nan", ONE_AND_HALF, ONE, Cutoff::At(0.0 / 0.0))?;
+    chain(rt, "cutoff-nan", ONE_AND_HALF, ONE, Cutoff::At(f64::NAN))?;
     chain(
         rt,
         "cutoff-other-nan",
         ONE_AND_HALF,
         ONE,
-        Cutoff::At(-(0.0 / 0.0)),
+        Cutoff::At(-f64::NAN),
     )
 }
 
