@@ -20,8 +20,8 @@ fn ask(bound: usize, count: usize, from: &[u16], to: &[u16], costs: &[i32]) -> u
     let mut keys = [0i64; 1025];
     dijkstra::dijkstra(
         Map {
-            bound: bound,
-            count: count,
+            bound,
+            count,
             directed: true,
         },
         &marks,
@@ -59,7 +59,7 @@ fn put_one(
     table::put(
         Map {
             bound: 1024,
-            count: count,
+            count,
             directed: true,
         },
         &marks,
@@ -74,15 +74,13 @@ fn put_one(
 
 // Puts links of different ends until one is refused, and gives how many were taken.
 fn fill(from: &mut [u16], to: &mut [u16], costs: &mut [i32]) -> usize {
-    let mut count: usize = 0;
-    let mut k: u16 = 0;
-    while k < 9000 {
+    let mut count = 0;
+    for k in 0..9000 {
         let done = put_one(count, from, to, costs, k / 1024, k % 1024);
         if done.refusal != 0 {
-            return count;
+            break;
         }
         count = done.count;
-        k += 1;
     }
     count
 }
