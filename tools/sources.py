@@ -25,11 +25,11 @@ def flat(text):
 
 class Function:
     """A public function: its name with crate and module, the lent slices it may write, its result and its contract. `found` are the sources of its crate,
-    `holders` the structs that hold something lent that may be written."""
+    `holders` the structs that hold something lent that may be written, `held` the fields of such a struct, by the parameter that is one."""
 
-    def __init__(self, name, file, line, params, result, clauses, head, found, holders):
+    def __init__(self, name, file, line, params, result, clauses, head, found, holders, held):
         self.crate, self.name, self.file, self.line = name.split("::")[0], name, file, line
-        self.params, self.result, self.head = params, result, head
+        self.params, self.result, self.head, self.held = params, result, head, held
         self.fields = struct_fields(found, result)
         self.written = [p for p, kind in params if LENT.search(kind) or holders & set(re.findall(r"\w+", kind))]
         self.ghosts = [name for word, name, _ in clauses if word == "ghost"]
@@ -90,6 +90,18 @@ def split_top(text, separator):
     return parts + [text[start:]]
 
 
+def split_types(text):
+    """The parts of a text of the language between commas that stand in no bracket, those of types included."""
+    closed = re.sub(r"<[^<>]*>", lambda m: "(" + m.group()[1:-1] + ")", text.replace("->", "  "))
+    while "<" in closed and re.search(r"<[^<>]*>", closed):
+        closed = re.sub(r"<[^<>]*>", lambda m: "(" + m.group()[1:-1] + ")", closed)
+    parts, at = [], 0
+    for part in split_top(closed, ","):
+        parts.append(text[at:at + len(part)])
+        at += len(part) + 1
+    return parts
+
+
 def bare(text):
     """A text without the brackets around all of it."""
     text = text.strip()
@@ -144,7 +156,7 @@ def public_functions(root):
                 continue
             place = crate if module in ("lib", "main") else crate + "::" + module
             for m in FN.finditer(text):
-                out.append(function_at(root, place, file, found, m, holders))
+                out.append(function_at(root, place, file, texts, m, holders))
     libraries = exported(root)
     listed = {crate for deps in libraries.values() for crate in deps}
     known = {(f.crate, promise(root, f)) for f in out if f.crate in listed}
@@ -175,12 +187,34 @@ def lent_structs(texts):
     return holders
 
 
-def function_at(root, place, file, found, m, holders):
-    """The public function whose head starts at a match of FN in a file of the sources of a crate."""
+def declaring(texts, crate, kind):
+    """The sources of the crate that declares the struct of a type: that which its path or an import names, else the crate itself, and the struct's name."""
+    path = re.sub(r"<.*|&\s*|'\w+\s*|\bmut\b", "", kind).strip().split("::")
+    for text in texts[crate].values() if len(path) == 1 else []:
+        m = re.search(r"(?m)^use (\w+)::(?:" + path[0] + r"|\{[^}]*\b" + path[0] + r"\b[^}]*\});", text)
+        path = [m.group(1)] + path if m and len(path) == 1 else path
+    return texts.get(path[0] if len(path) > 1 else crate, {}), path[-1]
+
+
+def lent_fields(texts, crate, kind):
+    """The fields of a struct that hold something lent that may be written, for a type that is such a struct."""
+    found, name = declaring(texts, crate, kind)
+    for text in found.values():
+        m = re.search(r"\bstruct\s+" + re.escape(name) + r"\s*(<[^>]*>)?\s*\{", text) if name else None
+        if m:
+            body = text[m.end():closing(text, m.end() - 1)]
+            fields = [f.partition(":") for f in split_types(body) if ":" in f and not GHOST.match(f)]
+            return [head.split()[-1] for head, _, of in fields if LENT.search(of)]
+    return []
+
+
+def function_at(root, place, file, texts, m, holders):
+    """The public function whose head starts at a match of FN in a file of the sources of a crate, given the sources of all."""
+    found = texts[place.split("::")[0]]
     text = found[file]
     close = closing(text, m.end() - 1)
     params = []
-    for p in split_top(text[m.end():close], ","):
+    for p in split_types(text[m.end():close]):
         name, _, kind = p.partition(":")
         if name.strip():
             params.append((re.findall(r"\w+", name)[-1], kind or name))
@@ -208,7 +242,10 @@ def function_at(root, place, file, found, m, holders):
         if i.start() < m.start() < closing(text, i.end() - 1):
             owner = i.group(1) + "::"
     line = text.count("\n", 0, m.start()) + 1
-    return Function(place + "::" + owner + m.group(1), os.path.relpath(file, root), line, params, result, clauses, head, found, holders)
+    # what `self` is, is told by the block
+    params = [(p, re.sub(r"\bself\b", owner[:-2], kind) if p == "self" else kind) for p, kind in params]
+    held = {p: lent_fields(texts, place.split("::")[0], kind) for p, kind in params if LENT.search(kind)}
+    return Function(place + "::" + owner + m.group(1), os.path.relpath(file, root), line, params, result, clauses, head, found, holders, held)
 
 
 def struct_fields(found, name):

@@ -6,7 +6,7 @@ use Prim.Native.Nat.{ℕ, ◌+◌}
 use lib.ListN.{length}
 use Rattle.lines.specs.Text.{placed}
 use lib.IntN.{ℤ}
-use Rattle.table.specs.Lent.{FloatCost}
+use Rattle.table.specs.declared.FloatCost.{FloatCost}
 use Rattle.net.specs.Net.{Net}
 use Rattle.dijkstra.proofs.Settles as dijkstra_laws
 use Rattle.bellman_ford.proofs.Settles as bellman_laws

@@ -4,8 +4,8 @@
 -- Assumes nothing.
 use Rattle.std.specs.Prelude.{◌≡◌, List, ℕ, ℤ, pos, replicate}
 use Rattle.lines.specs.Text.{Printed}
-use Rattle.float.specs.declared.Cutoff.TheVariants.{None}
-use Rattle.table.specs.Lent.{FloatCost}
+use Rattle.std.specs.Prelude.{None}
+use Rattle.table.specs.declared.FloatCost.{FloatCost}
 use Rattle.net.specs.Net.{Net, has}
 use Rattle.text.specs.Text.{distance_text, index_text, distance_lines, path_lines, row_lines, tree_lines, answer_text}
 use Rattle.dijkstra.specs.Promise as dijkstra

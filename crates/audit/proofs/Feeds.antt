@@ -11,9 +11,10 @@ use Prim.Native.Nat.{ℕ, ◌≤◌}
 use native.Mathlib.Omega.{arith}
 use lib.IntN.{ℤ}
 use lib.ListN.{length, take}
-use Rattle.float.specs.declared.Cutoff.{Cutoff}
+use Rattle.float.specs.Cutoff.{Cutoff}
 use Rattle.table.specs.Links.{Link, inside, lent_whole}
-use Rattle.table.specs.Lent.{FloatCost, RawCost, ints_no, floats_no, Ints, ints_now, put_ints, ints_put, Floats, floats_now, put_floats, floats_put}
+use Rattle.table.specs.Lent.{RawCost, ints_no, floats_no, Ints, ints_now, put_ints, ints_put, Floats, floats_now, put_floats, floats_put}
+use Rattle.table.specs.declared.FloatCost.{FloatCost}
 use Rattle.table.specs.Feeds.{Kind, ints, floats, Feed, fed, lasts, SameFeeds}
 use Rattle.net.specs.Net.{Net, most_arcs_of, width}
 use Rattle.dijkstra.specs.Promise as dijkstra

@@ -13,11 +13,11 @@ use lib.ListN.{length, get_or}
 use Rattle.whole.specs.Zed.{zed}
 use Rattle.clean.specs.Fill.{filled}
 use Rattle.clean.specs.None.{none_i64, none_u32, none_f64}
-use Rattle.float.specs.Cutoff.{past}
-use Rattle.float.specs.declared.Cutoff.{Cutoff}
-use Rattle.float.specs.declared.Cutoff.TheVariants.{None}
+use Rattle.float.specs.Cutoff.{Cutoff, past}
+use Rattle.std.specs.Prelude.{None}
 use Rattle.table.specs.Links.{Link}
-use Rattle.table.specs.Lent.{FloatCost, Ints}
+use Rattle.table.specs.Lent.{Ints}
+use Rattle.table.specs.declared.FloatCost.{FloatCost}
 use Rattle.table.specs.Feeds.{ints, Feed}
 use Rattle.walks.specs.Walk.{Walk, Least, NegativeFrom, Negative}
 use Rattle.walks.specs.Pigeon.{NoDup}

@@ -16,9 +16,10 @@ use Rattle.numbers.specs.Numbers.{Given, Follows}
 use Rattle.numbers.proofs.Numbers.{◌then◌, given, left, among}
 use Rattle.clean.specs.Fill.{filled}
 use Rattle.clean.specs.None.{none_i64}
-use Rattle.float.specs.declared.Cutoff.{Cutoff}
+use Rattle.float.specs.Cutoff.{Cutoff}
 use Rattle.table.specs.Links.{Link, zip3, place_of, present_both, all_inside, lent_whole, table_no}
-use Rattle.table.specs.Lent.{FloatCost, float_costs, RawCost, room_ints, room_floats, ints_no, floats_no, ints_now, put_ints, floats_now, put_floats}
+use Rattle.table.specs.Lent.{float_costs, RawCost, room_ints, room_floats, ints_no, floats_no, ints_now, put_ints, floats_now, put_floats}
+use Rattle.table.specs.declared.FloatCost.{FloatCost}
 use Rattle.table.specs.Promise.{ints_table, floats_table}
 use Rattle.walks.specs.Walk.{NegativeFrom, Negative}
 use Rattle.net.specs.Net.{Net, ArcOf, inside_net, has, whole_net, width, most_arcs_of}

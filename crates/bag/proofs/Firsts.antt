@@ -1,5 +1,6 @@
 -- The first of the largest words. The first block that has the largest word has in it the first index that has it; so the
 -- way goes from the blocks of 512 to those of 64, to those of 8, to the word, each time to the first. Assumes nothing.
+use mir.Val.{bool_byte}
 use mathlib.Core.Path.{◌≡◌, refl, sym, ap, subst, ◌∙◌}
 use mathlib.Core.Bool.{Bool, true, false}
 use mathlib.Core.List.{List}
@@ -134,9 +135,12 @@ module _ (peaks words : List ℕ) (S : Peaks peaks words) (w : ℕ) (most : w �
               no_sooner = λ k a b g. let z : k ≡ last = omega (arith, a, b) in omega (arith, e, g, ap (λ (x : ℕ). get_or peaks x 0) z);
             }
 
-    pub top_first : (r : ℕ) (t : Bool) → ltb (get_or peaks last 0) w ≡ t → r ≡ pick t 1 0 → FirstOf peaks last ((length words + 511) / 512) w (last + r)
-    top_first r true e f = subst (λ (x : ℕ). FirstOf peaks last ((length words + 511) / 512) w (last + x)) (sym f) (top_back (ltb-true (get_or peaks last 0) w e))
-    top_first r false e f = subst (λ (x : ℕ). FirstOf peaks last ((length words + 511) / 512) w (last + x)) (sym f) (top_front (ltb-false (get_or peaks last 0) w e))
+    pub top_first : (r : ℕ) → r ≡ bool_byte (ltb (get_or peaks last 0) w) → FirstOf peaks last ((length words + 511) / 512) w (last + r)
+    top_first r = go (ltb (get_or peaks last 0) w) refl
+      where
+        go : (t : Bool) → ltb (get_or peaks last 0) w ≡ t → r ≡ bool_byte t → FirstOf peaks last ((length words + 511) / 512) w (last + r)
+        go true e f = subst (λ (x : ℕ). FirstOf peaks last ((length words + 511) / 512) w (last + x)) (sym f) (top_back (ltb-true (get_or peaks last 0) w e))
+        go false e f = subst (λ (x : ℕ). FirstOf peaks last ((length words + 511) / 512) w (last + x)) (sym f) (top_front (ltb-false (get_or peaks last 0) w e))
 
   -- in it
   module _ (a : ℕ) (A : FirstOf peaks last ((length words + 511) / 512) w (last + a)) where

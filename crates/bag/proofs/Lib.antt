@@ -4,7 +4,6 @@ pub mod Firsts
 pub mod Content
 pub mod Pairs
 pub mod Words
-pub mod Ranks
 pub mod Empty
 pub mod Least
 pub mod One

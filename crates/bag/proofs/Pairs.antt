@@ -15,21 +15,13 @@ use borrow.Author.Tests.{ltb-true, ltb-false}
 use lib.ListN.{get_or, length, set, length-set}
 use lib.Seq.{get_or-set_same, get_or-set_other}
 use Rattle.bag.specs.Order.{before}
-use Rattle.bag.specs.Keys.{Keys}
+use Rattle.bag.specs.Keys.{Keys, RightWords, Worded}
 use Rattle.bag.specs.Content.{content_of, IsLeast, held}
 use Rattle.bag.specs.Peaks.{peak, Peaks, FirstOf}
 use Rattle.bag.specs.Bag.{Bag, NotAbove}
 use Rattle.bag.proofs.Order.{is_later}
 use Rattle.bag.proofs.Largest.{peak_above, peak_has}
 use Rattle.bag.proofs.Content.{inside, Some, some_held, any_default, content_out, content_in, held_place, held_key, place_held, held_out}
-
--- what the words of a kind owe its pairs: none is 0, a key that is lowered has a larger one, and so has a smaller key; where neither key is smaller, a pair whose word
--- is no larger has an index that is no smaller, if that holds where the two words are one
-pub record RightWords {K : Type 0} (o : Keys K) : Type 0 where
-  pub some : (k : K) (v : ℕ) → o.ok k → 0 < o.word k v
-  pub grow : (j k : K) (v : ℕ) → o.ok j → o.ok k → o.lt j k ≡ false → o.word j v ≤ o.word k v
-  pub below : (j : K) (u : ℕ) (k : K) (v : ℕ) → o.ok j → o.ok k → u < 1024 → v < 1024 → o.lt j k ≡ true → o.word k v < o.word j u
-  pub tie : (j : K) (u : ℕ) (k : K) (v : ℕ) → o.ok j → o.ok k → u < 1024 → v < 1024 → o.lt j k ≡ false → o.lt k j ≡ false → o.word j u ≤ o.word k v → (o.word j u ≡ o.word k v → v ≤ u) → v ≤ u
 
 module _ {K : Type 0} (o : Keys K) (peaks words : List ℕ) (keys : List K) (n : ℕ) (B : Bag o peaks words keys n) where
   -- ---- words that are not 0
@@ -44,6 +36,10 @@ module _ {K : Type 0} (o : Keys K) (peaks words : List ℕ) (keys : List K) (n :
   -- the largest word is not 0
   under : (u : ℕ) → 0 < get_or words u 0 → get_or words u 0 ≤ peak words 0 (length words)
   under u s = peak_above words 0 (length words) u zero-le (omega (arith, inside words u s))
+
+  -- each word is its index's with the key that stands there
+  pub worded : Worded o words
+  worded = record { key = λ v h. get_or keys v o.none; is = B.word }
 
   pub most_some : 0 < n → 0 < peak words 0 (length words)
   most_some more = omega (arith, (any more).is, under (any more).at (any more).is)

@@ -5,3 +5,4 @@ pub mod Peaks
 pub mod Ints
 pub mod Floats
 pub mod Bag
+pub mod Right

@@ -2,27 +2,17 @@
 // stand the largest of each 8 words, from its front on, of each 64, from its middle on, and of each 512, in its last quarter.
 // The last entry of peaks, where no largest word stands there, names the index whose word grew last.
 // No branch depends on a word, for which of two is larger is what no processor can foresee.
-ghost use Rattle.std.specs.Prelude.{◌≡◌, ℕ, ◌+◌, ◌-◌, ◌/◌, ◌≤◌, ◌<◌, max, eqb, length, get_or, set};
+ghost use Rattle.std.specs.Prelude.{◌≡◌, ℕ, ◌+◌, ◌-◌, ◌/◌, ◌≤◌, ◌<◌, max, eqb, length, get_or, set, IfSome};
 ghost use Rattle.bag.specs.Order.{pick};
 ghost use Rattle.bag.specs.Content.{held};
 ghost use Rattle.bag.specs.Peaks.{peak, span, Peaks, FirstOf, first_from};
-
-// The larger of two words.
-fn larger(a: usize, b: usize) -> usize
-    ensures { result ≡ max a b }
-{
-    if a < b {
-        return b;
-    }
-    a
-}
 
 // The largest of two words from i on.
 fn of_two(list: &[usize], i: usize) -> usize
     requires { (i + 2 ≤ length list.now) × (length list.now ≤ 1024) }
     ensures { result ≡ peak list.now i 2 }
 {
-    larger(list[i], list[i + 1])
+    list[i].max(list[i + 1])
 }
 
 // The largest of four.
@@ -30,7 +20,7 @@ fn of_four(list: &[usize], i: usize) -> usize
     requires { (i + 4 ≤ length list.now) × (length list.now ≤ 1024) }
     ensures { result ≡ peak list.now i 4 }
 {
-    larger(of_two(list, i), of_two(list, i + 2))
+    of_two(list, i).max(of_two(list, i + 2))
 }
 
 // The largest of eight.
@@ -38,7 +28,7 @@ fn of_eight(list: &[usize], i: usize) -> usize
     requires { (i + 8 ≤ length list.now) × (length list.now ≤ 1024) }
     ensures { result ≡ peak list.now i 8 }
 {
-    larger(of_four(list, i), of_four(list, i + 4))
+    of_four(list, i).max(of_four(list, i + 4))
 }
 
 // The word at i if that stands before the end, else 0.
@@ -46,10 +36,7 @@ fn of_one(list: &[usize], i: usize, end: usize) -> usize
     requires { (end ≤ length list.now) × (length list.now ≤ 1024) × (i ≤ 1024) × (end < i + 2) }
     ensures { result ≡ peak list.now i (end - i) }
 {
-    if i < end {
-        return list[i];
-    }
-    0
+    if i < end { list[i] } else { 0 }
 }
 
 // The largest of the words from i on that stand before the end, fewer than four.
@@ -58,9 +45,10 @@ fn of_three(list: &[usize], i: usize, end: usize) -> usize
     ensures { result ≡ peak list.now i (end - i) }
 {
     if i + 2 <= end {
-        return larger(of_two(list, i), of_one(list, i + 2, end));
+        of_two(list, i).max(of_one(list, i + 2, end))
+    } else {
+        of_one(list, i, end)
     }
-    of_one(list, i, end)
 }
 
 // The same, fewer than eight. There is no loop: a compiler would read several words at a time in it, and wait for a store
@@ -70,9 +58,10 @@ fn of_rest(list: &[usize], i: usize, end: usize) -> usize
     ensures { result ≡ peak list.now i (end - i) }
 {
     if i + 4 <= end {
-        return larger(of_four(list, i), of_three(list, i + 4, end));
+        of_four(list, i).max(of_three(list, i + 4, end))
+    } else {
+        of_three(list, i, end)
     }
-    of_three(list, i, end)
 }
 
 // The largest of the eight words from i on, or of those of them that stand before the end.
@@ -81,9 +70,10 @@ fn of_group(list: &[usize], i: usize, end: usize) -> usize
     ensures { result ≡ peak list.now i (span i end) }
 {
     if i + 8 <= end {
-        return of_eight(list, i);
+        of_eight(list, i)
+    } else {
+        of_rest(list, i, end)
     }
-    of_rest(list, i, end)
 }
 
 // The entry i grows to w, unless it is larger.
@@ -91,7 +81,7 @@ fn lift(peaks: &mut [usize], i: usize, w: usize)
     requires { i < length peaks.old }
     ensures { peaks.new ≡ set peaks.old i (max (get_or peaks.old i 0) w) }
 {
-    peaks[i] = larger(peaks[i], w);
+    peaks[i] = peaks[i].max(w);
 }
 
 // The last entry of peaks names v, where no largest word stands there.
@@ -131,10 +121,7 @@ pub fn add(peaks: &mut [usize], words: &mut [usize], n: usize, v: usize, w: usiz
 {
     let old = words[v];
     raise(peaks, words, v, w);
-    if old == 0 {
-        return n + 1;
-    }
-    n
+    if old == 0 { n + 1 } else { n }
 }
 
 // v's word becomes 0.
@@ -169,23 +156,18 @@ pub fn empty(peaks: &mut [usize], words: &mut [usize], v: usize)
     peaks[m / 2 + m / 4 + v / 512] = 0;
 }
 
-// Where n is 1, the index that the last entry of peaks names, if it has a word; else the number of words.
-pub fn lone(peaks: &[usize], words: &[usize], n: usize) -> usize
+// The index of the only word that is not 0, where n is 1 and the last entry of peaks names it.
+pub fn lone(peaks: &[usize], words: &[usize], n: usize) -> Option<usize>
     requires { (length peaks.now ≡ length words.now) × (0 < length words.now) }
-    ensures { result < length words.now → (n ≡ 1) × (0 < get_or words.now result 0) }
+    ensures { IfSome result
+        (λ v. (v < length words.now) × (n ≡ 1) × (0 < get_or words.now v 0)) }
 {
-    let m = words.len();
-    if n != 1 {
-        return m;
+    let v = peaks[words.len() - 1];
+    if n == 1 && v < words.len() && words[v] != 0 {
+        Some(v)
+    } else {
+        None
     }
-    let v = peaks[m - 1];
-    if m <= v {
-        return m;
-    }
-    if words[v] == 0 {
-        return m;
-    }
-    v
 }
 
 // The largest word.
@@ -196,9 +178,10 @@ pub fn largest(peaks: &[usize], words: &[usize]) -> usize
     let m = words.len();
     let top = m / 2 + m / 4;
     if m <= 512 {
-        return peaks[top];
+        peaks[top]
+    } else {
+        of_two(peaks, top)
     }
-    of_two(peaks, top)
 }
 
 // The entry i where it is w, else r.
@@ -206,10 +189,7 @@ fn sooner(list: &[usize], i: usize, w: usize, r: usize) -> usize
     requires { i < length list.now }
     ensures { result ≡ pick (eqb (get_or list.now i 0) w) i r }
 {
-    if list[i] == w {
-        return i;
-    }
-    r
+    if list[i] == w { i } else { r }
 }
 
 // The first of eight entries from i on that is w, one of which is.
@@ -233,9 +213,7 @@ fn first_of_rest(list: &[usize], i: usize, end: usize, w: usize) -> usize
     ensures { FirstOf list.now i (end - i) w result }
 {
     let mut r = end;
-    let mut k = end;
-    while i < k {
-        k = k - 1;
+    for k in (i..end).rev() {
         r = sooner(list, k, w, r);
     }
     r
@@ -248,9 +226,10 @@ fn first_of_group(list: &[usize], i: usize, end: usize, w: usize) -> usize
     ensures { FirstOf list.now i (span i end) w result }
 {
     if i + 8 <= end {
-        return first_of_eight(list, i, w);
+        first_of_eight(list, i, w)
+    } else {
+        first_of_rest(list, i, end, w)
     }
-    first_of_rest(list, i, end, w)
 }
 
 // The first block of 512 that has w, which is the largest word.
@@ -263,10 +242,7 @@ fn first_top(peaks: &[usize], words: &[usize], w: usize) -> usize
         (length words.now / 2 + length words.now / 4 + result) }
 {
     let m = words.len();
-    if peaks[m / 2 + m / 4] < w {
-        return 1;
-    }
-    0
+    usize::from(peaks[m / 2 + m / 4] < w)
 }
 
 // The first index that has the largest word, which is not 0.

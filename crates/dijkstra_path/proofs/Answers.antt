@@ -13,13 +13,12 @@ use Rattle.numbers.specs.Numbers as numbers
 use Rattle.clean.specs.Fill.{filled, Settled}
 use Rattle.clean.specs.None.{none_f64, none_u32, shown}
 use Rattle.clean.proofs.Filled.{settle}
-use Rattle.float.specs.Cutoff.{past, limit_of}
-use Rattle.float.specs.declared.Cutoff.TheVariants.{At}
+use Rattle.float.specs.Cutoff.{Cutoff, past, limit_of}
+use Rattle.std.specs.Prelude.{Some}
 use Rattle.float.proofs.Past.{past_limit}
 use Rattle.pending.proofs.Cutoff64.{same_cutoff64}
-use Rattle.float.specs.declared.Cutoff.{Cutoff}
 use Rattle.table.specs.Links.{Link, arcs}
-use Rattle.table.specs.Lent.{FloatCost}
+use Rattle.table.specs.declared.FloatCost.{FloatCost}
 use Rattle.table.proofs.Laws.{whole}
 use Rattle.net.specs.Net.{Net, links_of, OpenArcOf, most_arcs_of}
 use Rattle.net.proofs.Nodes.{has_below}
@@ -81,7 +80,7 @@ module _ {g : Net FloatCost} {s : ℕ} {b : Buffers} (ok : Passed g s b) where
           let are = open_are g ok.inside r in
           literal_exactly.1
           (ends_map (search64 (past k) none s) (RowArc m nb) (OpenArcOf g) (λ u w x. (are u w x).0) (λ u w x. (are u w x).1)
-          (same_cutoff64 (At (limit_of k)) k (λ x a. past_limit k x) s (RowArc m nb) v.ran.searched.end v.ran.searched.ends))
+          (same_cutoff64 (Some (limit_of k)) k (λ x a. past_limit k x) s (RowArc m nb) v.ran.searched.end v.ran.searched.ends))
 
       -- what the wiping leaves
       module _ {o h w q i y : List ℕ} (rows_are : lists_of o h w ≡ wiped m a 0 nb) (q-is : q ≡ filled m 0 M.peaks) (i-is : i ≡ filled m 0 M.words) (y_is : y ≡ filled m 0 M.keys) where

@@ -15,11 +15,10 @@ use lib.Ieee.{Float, inf, binary64, lt, fits, of_bits}
 use Rattle.whole.proofs.Cases.{and_left}
 use Rattle.clean.specs.None.{none_f64, none_u32, shown}
 use Rattle.float.specs.Dist.{Dist64, zero64, lt64}
-use Rattle.float.specs.Cutoff.{past}
-use Rattle.float.specs.declared.Cutoff.{Cutoff}
-use Rattle.float.specs.declared.Cutoff.TheVariants.{At}
+use Rattle.float.specs.Cutoff.{Cutoff, past}
+use Rattle.std.specs.Prelude.{Some}
 use Rattle.float.proofs.Cost.{plus_grows}
-use Rattle.table.specs.Lent.{FloatCost}
+use Rattle.table.specs.declared.FloatCost.{FloatCost}
 use Rattle.table.proofs.Laws as table
 use Rattle.net.specs.Net.{Net, OpenArcOf, whole_net, inside_net, has, nodes_of, width, most_arcs_of}
 use Rattle.net.proofs.Same.{open_has, open_below}
@@ -92,11 +91,11 @@ module _ {g : Net FloatCost} {s : ℕ} {k : Cutoff} {b e : Buffers} {number : �
           (subst (λ (z : ℕ). z < g.bound) (sym (w.preds v l ∙ ap (shown none_u32) j)) (open_below g w.inside u v a.0 a.1).0)
 
 -- under a cutoff below zero every other index has none
-pub source_alone : (c : Float) → T (fits binary64 c) → lt c (of_bits binary64 zero64) ≡ true → {g : Net FloatCost} {s : ℕ} {b e : Buffers} {number : ℕ} → Promise g s (At c) b e number → number ≡ 0
+pub source_alone : (c : Float) → T (fits binary64 c) → lt c (of_bits binary64 zero64) ≡ true → {g : Net FloatCost} {s : ℕ} {b e : Buffers} {number : ℕ} → Promise g s (Some c) b e number → number ≡ 0
     → (v : ℕ) → v < g.bound → (v ≡ s → ⊥) → (get_or e.memory.dist v none_f64 ≡ none_f64) × (get_or e.memory.preds v none_u32 ≡ none_u32)
-source_alone c held below {g} {s} {e = e} promise zero v l n = go refl refl ((from_source64 (past (At c)) none s (OpenArcOf g) w.end w.ends w.number).others v n)
+source_alone c held below {g} {s} {e = e} promise zero v l n = go refl refl ((from_source64 (past (Some c)) none s (OpenArcOf g) w.end w.ends w.number).others v n)
   where
-    w : Showing g s (At c) e
+    w : Showing g s (Some c) e
     w = showing promise zero
 
     lone : w.end.dist v ≡ none

@@ -17,9 +17,9 @@ use Rattle.clean.specs.None.{none_i64, none_f64, none_u32, shown}
 use Rattle.float.specs.Cost.{bad_cost}
 use Rattle.float.specs.Cutoff.{past}
 use Rattle.float.specs.Whole.{bits_of}
-use Rattle.float.specs.declared.Cutoff.TheVariants.{None}
+use Rattle.std.specs.Prelude.{None}
 use Rattle.float.proofs.Whole.{whole_good}
-use Rattle.table.specs.Lent.{FloatCost}
+use Rattle.table.specs.declared.FloatCost.{FloatCost}
 use Rattle.walks.specs.Pigeon.{In}
 use Rattle.walks.specs.Walk.{Total}
 use Rattle.walks.proofs.Over.{total_one}

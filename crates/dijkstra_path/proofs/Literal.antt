@@ -4,9 +4,8 @@
 use mathlib.Core.Logic.{◌↔◌}
 use mathlib.Core.Option.{none}
 use Prim.Native.Nat.{ℕ}
-use Rattle.float.specs.Cutoff.{past}
-use Rattle.float.specs.declared.Cutoff.{Cutoff}
-use Rattle.table.specs.Lent.{FloatCost}
+use Rattle.float.specs.Cutoff.{Cutoff, past}
+use Rattle.table.specs.declared.FloatCost.{FloatCost}
 use Rattle.net.specs.Net.{Net, links_of, OpenArcOf}
 use Rattle.rows.specs.Rows.{open_links, open_rows}
 use Rattle.rows.proofs.Maps.{open_arcs_lem}

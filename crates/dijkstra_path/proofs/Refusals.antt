@@ -6,7 +6,7 @@ use Prim.Native.Nat.{ℕ}
 use Rattle.whole.proofs.Cases.{and_left, and_right}
 use Rattle.numbers.proofs.Numbers.{◌then◌}
 use Rattle.numbers.proofs.Numbers as numbers
-use Rattle.table.specs.Lent.{FloatCost}
+use Rattle.table.specs.declared.FloatCost.{FloatCost}
 use Rattle.net.specs.Net.{Net, whole_net, inside_net, has, most_arcs_of}
 use Rattle.rows.specs.Scratch.{has_lists}
 use Rattle.rows.specs.Kept.{EnoughLists}
@@ -15,8 +15,8 @@ use Rattle.turns.specs.Firsts.{EnoughMemory}
 use Rattle.search.proofs.Lists.{has_memory_lem}
 use Rattle.dijkstra_path.specs.Promise.{Buffers, long_enough, enough, table, Promise}
 use Rattle.dijkstra_path.specs.Parts.{refusal_no}
-use Rattle.float.specs.declared.Cutoff.{Cutoff}
-use Rattle.float.specs.declared.Cutoff.TheVariants.{None}
+use Rattle.float.specs.Cutoff.{Cutoff}
+use Rattle.std.specs.Prelude.{None}
 
 module _ (g : Net FloatCost) (s : ℕ) (b : Buffers) where
   -- ---- the tests, one after the other

@@ -16,12 +16,11 @@ use Rattle.numbers.proofs.Numbers.{◌then◌, is_one, follows_one, exactly, giv
 use Rattle.clean.specs.None.{none_f64, none_u32}
 use Rattle.clean.proofs.Filled.{settled_one}
 use Rattle.float.specs.Dist.{Dist64, zero64}
-use Rattle.float.specs.Cutoff.{past}
-use Rattle.float.specs.declared.Cutoff.{Cutoff}
-use Rattle.float.specs.declared.Cutoff.TheVariants.{None}
-use Rattle.float.specs.declared.Cutoff.TheVariants as Cut
+use Rattle.float.specs.Cutoff.{Cutoff, past}
+use Rattle.std.specs.Prelude.{None}
+use Rattle.std.specs.Prelude as Cut
 use Rattle.float.proofs.Past.{past_none, past_nan, past_infinity, past_minus}
-use Rattle.table.specs.Lent.{FloatCost}
+use Rattle.table.specs.declared.FloatCost.{FloatCost}
 use Rattle.net.specs.Net.{Net, OpenArcOf, SameNet}
 use Rattle.net.proofs.Same.{same_inside, same_size, same_open}
 use Rattle.rows.specs.Rows.{open_rows}
@@ -123,16 +122,16 @@ promise_cut k k' alike {g} {s} {b} {e} {number} p = record { follows = follows_o
         then tt
 
 -- a NaN cuts nothing, nor does +infinity: both answer as no cutoff
-pub cutoff_nan : {g : Net FloatCost} {s : ℕ} {b e : Buffers} {number : ℕ} → Promise g s (Cut.At nan) b e number ↔ Promise g s None b e number
-cutoff_nan = (promise_cut (Cut.At nan) None (λ x p. past_nan x ∙ sym (past_none x)), promise_cut None (Cut.At nan) (λ x p. past_none x ∙ sym (past_nan x)))
+pub cutoff_nan : {g : Net FloatCost} {s : ℕ} {b e : Buffers} {number : ℕ} → Promise g s (Cut.Some nan) b e number ↔ Promise g s None b e number
+cutoff_nan = (promise_cut (Cut.Some nan) None (λ x p. past_nan x ∙ sym (past_none x)), promise_cut None (Cut.Some nan) (λ x p. past_none x ∙ sym (past_nan x)))
 
-pub cutoff_infinity : {g : Net FloatCost} {s : ℕ} {b e : Buffers} {number : ℕ} → Promise g s (Cut.At (inf false)) b e number ↔ Promise g s None b e number
-cutoff_infinity = (promise_cut (Cut.At (inf false)) None (λ x p. past_infinity x ∙ sym (past_none x)), promise_cut None (Cut.At (inf false)) (λ x p. past_none x ∙ sym (past_infinity x)))
+pub cutoff_infinity : {g : Net FloatCost} {s : ℕ} {b e : Buffers} {number : ℕ} → Promise g s (Cut.Some (inf false)) b e number ↔ Promise g s None b e number
+cutoff_infinity = (promise_cut (Cut.Some (inf false)) None (λ x p. past_infinity x ∙ sym (past_none x)), promise_cut None (Cut.Some (inf false)) (λ x p. past_none x ∙ sym (past_infinity x)))
 
 -- -0.0 acts as 0.0
-pub cutoff_minus : {g : Net FloatCost} {s : ℕ} {b e : Buffers} {number : ℕ} → Promise g s (Cut.At (of_bits binary64 0x8000_0000_0000_0000)) b e number
-    ↔ Promise g s (Cut.At (of_bits binary64 zero64)) b e number
+pub cutoff_minus : {g : Net FloatCost} {s : ℕ} {b e : Buffers} {number : ℕ} → Promise g s (Cut.Some (of_bits binary64 0x8000_0000_0000_0000)) b e number
+    ↔ Promise g s (Cut.Some (of_bits binary64 zero64)) b e number
 cutoff_minus = (
-  promise_cut (Cut.At (of_bits binary64 0x8000_0000_0000_0000)) (Cut.At (of_bits binary64 zero64)) (λ x p. past_minus x p),
-  promise_cut (Cut.At (of_bits binary64 zero64)) (Cut.At (of_bits binary64 0x8000_0000_0000_0000)) (λ x p. sym (past_minus x p)),
+  promise_cut (Cut.Some (of_bits binary64 0x8000_0000_0000_0000)) (Cut.Some (of_bits binary64 zero64)) (λ x p. past_minus x p),
+  promise_cut (Cut.Some (of_bits binary64 zero64)) (Cut.Some (of_bits binary64 0x8000_0000_0000_0000)) (λ x p. sym (past_minus x p)),
 )

@@ -3,10 +3,9 @@
 use Rattle.std.proofs.Math.Option.{none}
 use Rattle.std.specs.Prelude.{ℕ}
 use Rattle.numbers.specs.Tests.{first_no}
-use Rattle.float.specs.Cutoff.{limit_of}
-use Rattle.float.specs.declared.Cutoff.{Cutoff}
-use Rattle.float.specs.declared.Cutoff.TheVariants.{None}
-use Rattle.table.specs.Lent.{FloatCost}
+use Rattle.float.specs.Cutoff.{Cutoff, limit_of}
+use Rattle.std.specs.Prelude.{None}
+use Rattle.table.specs.declared.FloatCost.{FloatCost}
 use Rattle.net.specs.Net.{Net}
 use Rattle.rows.specs.Rows.{Lists}
 use Rattle.turns.specs.Memory.{Memory}

@@ -5,9 +5,8 @@ use Rattle.std.proofs.Math.Option.{none}
 use Rattle.numbers.specs.Numbers.{Row, row, done, fails, holds, Follows}
 use Rattle.clean.specs.Fill.{filled, Settled}
 use Rattle.clean.specs.None.{none_f64, none_u32, shown}
-use Rattle.float.specs.Cutoff.{past}
-use Rattle.float.specs.declared.Cutoff.{Cutoff}
-use Rattle.table.specs.Lent.{FloatCost}
+use Rattle.float.specs.Cutoff.{Cutoff, past}
+use Rattle.table.specs.declared.FloatCost.{FloatCost}
 use Rattle.net.specs.Net.{Net, whole_net, inside_net, has, most_arcs_of}
 use Rattle.rows.specs.Rows.{Lists, lists_of, open_rows}
 use Rattle.rows.specs.Scratch.{has_lists, wiped}

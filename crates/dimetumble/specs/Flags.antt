@@ -1,8 +1,8 @@
 -- Flags and the cutoff as C hands them over.
 -- Assumes nothing.
 use Rattle.std.specs.Prelude.{Bool, not, cond, ℕ, eqb, Float}
-use Rattle.float.specs.declared.Cutoff.{Cutoff}
-use Rattle.float.specs.declared.Cutoff.TheVariants.{None, At}
+use Rattle.float.specs.Cutoff.{Cutoff}
+use Rattle.std.specs.Prelude.{None, Some}
 
 -- a flag: 0 is no, any other byte is yes
 abbrev pub is_set : ℕ → Bool
@@ -10,4 +10,4 @@ is_set b = not (eqb b 0)
 
 -- the cutoff: at the value where the flag is set, else none
 unfoldable pub limit_of : ℕ → Float → Cutoff
-limit_of b x = cond (is_set b) (At x) None
+limit_of b x = cond (is_set b) (Some x) None

@@ -1,17 +1,19 @@
 -- What a cutoff cuts.
 -- Assumes nothing.
-use Rattle.std.specs.Prelude.{Bool, false, ℕ, Float}
+use Rattle.std.specs.Prelude.{Bool, false, ℕ, Float, Option, None, Some}
 use Rattle.std.specs.Float.{inf, binary64}
 use Rattle.std.specs.Float.Ieee.{lt, of_bits}
-use Rattle.float.specs.declared.Cutoff.{Cutoff}
-use Rattle.float.specs.declared.Cutoff.TheVariants.{None, At}
+
+-- a cutoff: none, or a value, which may be any
+abbrev pub Cutoff : Type 0
+Cutoff = Option Float
 
 -- a total past the cutoff: none cuts nothing, an equal total is kept, and no total is past a NaN
 unfoldable pub past : Cutoff → ℕ → Bool
 past None next = false
-past (At c) next = lt c (of_bits binary64 next)
+past (Some c) next = lt c (of_bits binary64 next)
 
 -- the value of a cutoff that cuts the same: +infinity for none
 unfoldable pub limit_of : Cutoff → Float
 limit_of None = inf false
-limit_of (At c) = c
+limit_of (Some c) = c

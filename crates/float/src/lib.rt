@@ -8,16 +8,8 @@ ghost use Rattle.clean.specs.None.{none_f64};
 ghost use Rattle.float.specs.Dist.{Dist64, plus64};
 ghost use Rattle.float.specs.Cost.{bad_cost};
 ghost use Rattle.float.specs.Cutoff.{limit_of, past};
-ghost use Rattle.float.specs.declared.Cutoff.TheVariants.{At};
 ghost use Rattle.float.specs.Better.{better_within};
 ghost use Rattle.float.specs.Stored.{Stored};
-
-// A cutoff: none, or at a value, which may be any.
-#[derive(Clone, Copy)]
-pub enum Cutoff {
-    None,
-    At(f64),
-}
 
 // Is the sign bit set, or is it a NaN? As numbers these are the patterns past that of +infinity.
 pub fn bad_cost(bits: u64) -> bool
@@ -36,19 +28,16 @@ pub fn plus(d: u64, bits: u64) -> u64
 }
 
 // The value that totals are held to: +infinity without a cutoff, which no total is past.
-pub fn limit(cutoff: Cutoff) -> f64
+pub fn limit(cutoff: Option<f64>) -> f64
     ensures { result ≡ limit_of cutoff }
 {
-    match cutoff {
-        Cutoff::None => f64::from_bits(0x7ff0_0000_0000_0000),
-        Cutoff::At(value) => value,
-    }
+    cutoff.unwrap_or(f64::INFINITY)
 }
 
 // Is the total past the cutoff at that value?
 fn cuts(limit: f64, next: u64) -> bool
     requires { Dist64 next }
-    ensures { result ≡ past (At limit) next }
+    ensures { result ≡ past (Some limit) next }
 {
     f64::from_bits(next) > limit
 }
@@ -56,12 +45,13 @@ fn cuts(limit: f64, next: u64) -> bool
 // The total as it counts: none where it is past the cutoff at that value.
 fn counted(limit: f64, next: u64) -> u64
     requires { Dist64 next }
-    ensures { result ≡ cond (past (At limit) next) none_f64 next }
+    ensures { result ≡ cond (past (Some limit) next) none_f64 next }
 {
     if cuts(limit, next) {
-        return clean::NONE_F64;
+        clean::NONE_F64
+    } else {
+        next
     }
-    next
 }
 
 // Is the total to be stored over what is there? The pattern of none is above that of every distance, so one comparison tells;

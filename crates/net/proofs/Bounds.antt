@@ -37,7 +37,7 @@ module _ {C : Type 0} {g : Net C} (w : Whole g) where
 
 -- any map whose room is that of its slices
 module _ {C : Type 0} (g : Net C) (xs ys : List ℕ) (cs : List C) (r : Room g.room xs ys (length cs)) (t : g.table ≡ zip3 xs ys cs) where
-  whole_of : whole_net g ≡ true → Whole g
+  pub whole_of : whole_net g ≡ true → Whole g
   whole_of e =
       let k = table.whole g.bound g.count g.room g.marks e in
       record {
@@ -47,6 +47,11 @@ module _ {C : Type 0} (g : Net C) (xs ys : List ℕ) (cs : List C) (r : Room g.r
         marked = k.marked;
         listed = rw t (zip_long xs ys cs g.count (omega (arith, k.few, r.in_from)) (omega (arith, k.few, r.in_to)) (omega (arith, k.few, r.in_costs)));
       }
+
+  pub long_of : whole_net g ≡ true → (g.count ≤ length xs) × (g.count ≤ length ys) × (g.count ≤ length cs)
+  long_of e =
+      let k = (whole_of e).within in
+      (omega (arith, k, r.in_from), omega (arith, k, r.in_to), omega (arith, k, r.in_costs))
 
 -- the slices of an integer map
 module _ (m n : ℕ) (d : Bool) (marks xs ys : List ℕ) (cs : List ℤ) (e : whole_net (net_of m n d marks xs ys cs) ≡ true) where

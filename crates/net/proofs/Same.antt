@@ -8,7 +8,7 @@ use Prim.Native.Nat.{ℕ, ◌<◌}
 use lib.ListN.{length}
 use Rattle.whole.proofs.Cases.{agree}
 use Rattle.table.specs.Links.{Link, Arc}
-use Rattle.table.specs.Lent.{FloatCost}
+use Rattle.table.specs.declared.FloatCost.{FloatCost}
 use Rattle.table.proofs.Arcs.{arc_inside, inside_arc}
 use Rattle.table.proofs.Joins.{joined, joins_of}
 use Rattle.net.specs.Net.{Net, links_of, ArcOf, OpenArcOf, LeadsOf, has, rising, nodes_of, width, inside_net, most_arcs, most_arcs_of, SameNet}

@@ -1,8 +1,12 @@
 -- The lent map as engines see it: once for any type C of a link's cost.
 -- Assumes nothing.
 use Rattle.std.specs.Prelude.{◌≡◌, Bool, cond, List, [], ◌∷◌, ◌++◌, ◌↔◌, ℕ, zero, suc, ◌+◌, ℤ, length, take}
+use Rattle.net.specs.declared.Lent.{Lent}
+use Rattle.net.specs.declared.Ints.{Ints}
+use Rattle.net.specs.declared.Floats.{Floats}
 use Rattle.table.specs.Links.{Link, zip3, lent_whole, all_inside, present, Arc, Leads}
-use Rattle.table.specs.Lent.{room_ints, room_floats, FloatCost, float_costs, OpenArc}
+use Rattle.table.specs.Lent.{room_ints, room_floats, float_costs, OpenArc}
+use Rattle.table.specs.declared.FloatCost.{FloatCost}
 
 -- a lent map: its numbers, its room, its marks and its table
 pub record Net (C : Type 0) : Type 0 where
@@ -21,6 +25,24 @@ net_of m n d marks xs ys cs = record { bound = m; count = n; directed = d; room 
 abbrev pub net_of64 : ℕ → ℕ → Bool → List ℕ → List ℕ → List ℕ → List ℕ → List ℕ → Net FloatCost
 net_of64 m n d marks xs ys bs os =
     record { bound = m; count = n; directed = d; room = room_floats xs ys bs os; marks = marks; table = zip3 xs ys (float_costs bs os) }
+
+-- of a map that is lent, of either kind: what its costs list, and the room that its slices leave
+abbrev pub net_in : {D C : Type 0} → (D → List C) → (List ℕ → List ℕ → D → ℕ) → Lent D → Net C
+net_in listed room l = record {
+  bound = l.map.bound;
+  count = l.map.count;
+  directed = l.map.directed;
+  room = room l.from.now l.to.now l.costs;
+  marks = l.marks.now;
+  table = zip3 l.from.now l.to.now (listed l.costs);
+}
+
+-- of a lent integer map, of a lent f64 map
+abbrev pub int_net : Lent Ints → Net ℤ
+int_net l = net_of l.map.bound l.map.count l.map.directed l.marks.now l.from.now l.to.now l.costs.costs.now
+
+abbrev pub float_net : Lent Floats → Net FloatCost
+float_net l = net_of64 l.map.bound l.map.count l.map.directed l.marks.now l.from.now l.to.now l.costs.bits.now l.costs.opens.now
 
 -- its links: the first places of its table
 abbrev pub links_of : {C : Type 0} → Net C → List (Link C)

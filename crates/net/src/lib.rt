@@ -1,47 +1,25 @@
 // What every engine asks of a lent map before it starts.
 #![tactic(auto)]
 
-ghost use Rattle.std.specs.Prelude.{true, ◌++◌, ◌≡◌, ℕ, ◌≤◌, length, drop};
+ghost use Rattle.std.specs.Prelude.{true, ◌++◌, ◌≡◌, List, ℕ, ◌≤◌, length, drop};
 ghost use Rattle.table.specs.Links.{present};
-ghost use Rattle.net.specs.Net.{net_of, net_of64, whole_net, inside_net, rising, most_arcs};
+ghost use Rattle.table.specs.Lent.{room_ints, room_floats, float_costs};
+ghost use Rattle.table.proofs.Laws.{Room, room_ints_lem, room_floats_lem};
+ghost use Rattle.net.specs.Net.{net_in, whole_net, inside_net, rising, most_arcs};
 ghost use Rattle.net.specs.Ranks.{Ranks};
 
-use table::Map;
-
-// Does the map have the index i, which may be any number?
-pub fn has_index(bound: usize, marks: &[u8], i: usize) -> bool
-    requires { bound ≤ length marks.now }
-    ensures { result ≡ present bound marks.now i }
-{
-    if bound <= i {
-        return false;
-    }
-    marks[i] != 0
-}
-
-// a: the room that the arcs of n links may take.
-pub fn most_arcs(directed: bool, n: usize) -> usize
-    requires { n ≤ 8192 }
-    ensures { result ≡ most_arcs directed n }
-{
-    if directed {
-        return n;
-    }
-    n + n
-}
+use table::{FloatCost, Map};
 
 // p: how many indices the map has.
 pub fn count_present(bound: usize, marks: &[u8]) -> usize
     requires { bound ≤ length marks.now }
     ensures { result ≡ length (rising (present bound marks.now) bound) }
 {
-    let mut p: usize = 0;
-    let mut i: usize = 0;
-    while i < bound {
+    let mut p = 0;
+    for i in 0..bound {
         if marks[i] != 0 {
             p += 1;
         }
-        i += 1;
     }
     p
 }
@@ -51,14 +29,12 @@ pub fn set_ranks(bound: usize, marks: &[u8], ranks: &mut [usize])
     requires { (bound ≤ length marks.now) × (bound ≤ length ranks.old) }
     ensures { Ranks (present bound marks.now) bound ranks.old ranks.new }
 {
-    let mut p: usize = 0;
-    let mut i: usize = 0;
-    while i < bound {
+    let mut p = 0;
+    for i in 0..bound {
         ranks[i] = p;
         if marks[i] != 0 {
             p += 1;
         }
-        i += 1;
     }
 }
 
@@ -70,69 +46,127 @@ pub fn list_nodes(bound: usize, marks: &[u8], nodes: &mut [u32]) -> usize
         × (nodes.new ≡ rising (present bound marks.now) bound
         ++ drop (length (rising (present bound marks.now) bound)) nodes.old) }
 {
-    let mut p: usize = 0;
-    let mut i: usize = 0;
-    while i < bound {
+    let mut p = 0;
+    for i in 0..bound {
         if marks[i] != 0 {
             nodes[p] = i as u32;
             p += 1;
         }
-        i += 1;
     }
     p
 }
 
-// Does an integer map keep the limits, with slices that are long enough?
-pub fn whole(map: Map, marks: &[u8], from: &[u16], to: &[u16], costs: &[i32]) -> bool
-    ensures { result ≡ whole_net
-        (net_of map.bound map.count map.directed marks.now from.now to.now
-        costs.now) }
-{
-    let most = table::room(from, to, costs);
-    table::lent_whole(map.bound, map.count, most, marks)
+// The costs of a lent map's links, of one kind.
+pub trait Costs: Copy {
+    // What a link costs.
+    type Cost;
+
+    // The cost of each link, by its place.
+    ghost listed: { Self → List Self.Cost };
+
+    // The room that these slices and those of the ends leave.
+    ghost room: { List ℕ → List ℕ → Self → ℕ };
+
+    fn room(self, from: &[u16], to: &[u16]) -> usize
+        ensures { result ≡ room from.now to.now self };
+
+    // So many links have their place in each slice.
+    ghost fits: { (xs ys : List ℕ) (c : Self) → Room (room xs ys c) xs ys (length (listed c)) };
 }
 
-// Does each link of an integer map name indices that the map has?
-pub fn inside(map: Map, marks: &[u8], from: &[u16], to: &[u16], costs: &[i32]) -> bool
-    requires { whole_net (net_of map.bound map.count map.directed marks.now from.now to.now costs.now) ≡ true }
-    ensures { result ≡ inside_net
-        (net_of map.bound map.count map.directed marks.now from.now to.now
-        costs.now) }
-{
-    table::all_inside(map.bound, map.count, marks, from, to)
+// The costs of an integer map.
+#[derive(Clone, Copy)]
+pub struct Ints<'a> {
+    pub costs: &'a [i32],
 }
 
-// Does an f64 map keep the limits, with slices that are long enough?
-pub fn whole_f64(
-    map: Map,
-    marks: &[u8],
-    from: &[u16],
-    to: &[u16],
-    bits: &[u64],
-    opens: &[u8],
-) -> bool
-    ensures { let net = net_of64 map.bound map.count map.directed marks.now from.now to.now
-        bits.now opens.now in
-        result ≡ whole_net net }
-{
-    let most = table::room_f64(from, to, bits, opens);
-    table::lent_whole(map.bound, map.count, most, marks)
+impl<'a> Costs for Ints<'a> {
+    type Cost = i32;
+
+    ghost listed = { λ c. c.costs.now };
+
+    ghost room = { λ xs ys c. room_ints xs ys c.costs.now };
+
+    ghost fits = { λ xs ys c. room_ints_lem xs ys c.costs.now };
+
+    fn room(self, from: &[u16], to: &[u16]) -> usize {
+        table::room(from, to, self.costs)
+    }
 }
 
-// Does each link of an f64 map name indices that the map has?
-pub fn inside_f64(
-    map: Map,
-    marks: &[u8],
-    from: &[u16],
-    to: &[u16],
-    bits: &[u64],
-    opens: &[u8],
-) -> bool
-    requires { whole_net (net_of64 map.bound map.count map.directed marks.now from.now to.now bits.now opens.now)
-        ≡ true }
-    ensures { let net = net_of64 map.bound map.count map.directed marks.now from.now to.now
-        bits.now opens.now in
-        result ≡ inside_net net }
-{
-    table::all_inside(map.bound, map.count, marks, from, to)
+// The costs of an f64 map: patterns, and open marks.
+#[derive(Clone, Copy)]
+pub struct Floats<'a> {
+    pub bits: &'a [u64],
+    pub opens: &'a [u8],
+}
+
+impl<'a> Costs for Floats<'a> {
+    type Cost = FloatCost;
+
+    ghost listed = { λ c. float_costs c.bits.now c.opens.now };
+
+    ghost room = { λ xs ys c. room_floats xs ys c.bits.now c.opens.now };
+
+    ghost fits = { λ xs ys c. room_floats_lem xs ys c.bits.now c.opens.now };
+
+    fn room(self, from: &[u16], to: &[u16]) -> usize {
+        table::room_f64(from, to, self.bits, self.opens)
+    }
+}
+
+// A lent map: its scalars, the marks of its indices, the ends and the costs of its links.
+#[derive(Clone, Copy)]
+pub struct Lent<'a, C> {
+    pub map: Map,
+    pub marks: &'a [u8],
+    pub from: &'a [u16],
+    pub to: &'a [u16],
+    pub costs: C,
+}
+
+impl<'a, C: Costs> Lent<'a, C> {
+    // Does it keep the limits, with slices that are long enough?
+    pub fn whole(self) -> bool
+        ensures { result ≡ whole_net (net_in C.listed C.room self.entry) }
+    {
+        let room = self.costs.room(self.from, self.to);
+        table::lent_whole(self.map.bound, self.map.count, room, self.marks)
+    }
+
+    // Does each link name indices that the map has?
+    pub fn inside(self) -> bool
+        requires { whole_net (net_in C.listed C.room self) ≡ true }
+        ensures { result ≡ inside_net (net_in C.listed C.room self.entry) }
+    {
+        table::all_inside(
+            self.map.bound,
+            self.map.count,
+            self.marks,
+            self.from,
+            self.to,
+        )
+    }
+
+    // a: the room that its arcs may take.
+    #[tactic(auto, unfolding(crate::specs::Net::most_arcs))]
+    pub fn most_arcs(self) -> usize
+        requires { self.map.count ≤ 8192 }
+        ensures { result ≡ most_arcs self.entry.map.directed self.entry.map.count }
+    {
+        let count = self.map.count;
+        if self.map.directed {
+            count
+        } else {
+            count + count
+        }
+    }
+
+    // Does it have the index i, which may be any number?
+    pub fn has(self, i: usize) -> bool
+        requires { self.map.bound ≤ length self.marks.now }
+        ensures { result ≡ present self.entry.map.bound self.entry.marks.now i }
+    {
+        table::is_present(self.map.bound, self.marks, i)
+    }
 }

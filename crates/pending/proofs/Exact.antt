@@ -16,7 +16,7 @@ use Rattle.float.specs.Dist.{zero64, lt64, plus64}
 use Rattle.float.specs.Cost.{bad_cost}
 use Rattle.float.specs.Whole.{bits_of}
 use Rattle.float.specs.Cutoff.{past}
-use Rattle.float.specs.declared.Cutoff.TheVariants.{None}
+use Rattle.std.specs.Prelude.{None}
 use Rattle.float.proofs.Dist.{ltb_no}
 use Rattle.float.proofs.Whole.{whole_lt64, whole_plus, whole_good, zero_is}
 use Rattle.float.proofs.Past.{past_none}

@@ -14,9 +14,8 @@ use lib.IntN.{ℤ}
 use Rattle.whole.proofs.Cases.{other}
 use Rattle.numbers.specs.Numbers as rows
 use Rattle.numbers.proofs.Numbers.{◌then◌, behind, follows_behind}
-use Rattle.float.specs.Cutoff.{past}
-use Rattle.float.specs.declared.Cutoff.{Cutoff}
-use Rattle.table.specs.Lent.{FloatCost}
+use Rattle.float.specs.Cutoff.{Cutoff, past}
+use Rattle.table.specs.declared.FloatCost.{FloatCost}
 use Rattle.net.specs.Net.{Net, ArcOf, inside_net, has}
 use Rattle.rows.specs.Rows.{rows_of, open_rows}
 use Rattle.pending.specs.Setting.{End}

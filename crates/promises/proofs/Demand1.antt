@@ -17,9 +17,10 @@ use lib.IntN.{ℤ}
 use lib.ListN.{length}
 use Rattle.numbers.specs.Numbers.{Follows, OneOf, At}
 use Rattle.numbers.proofs.Numbers.{one_of, exactly}
-use Rattle.float.specs.declared.Cutoff.{Cutoff}
+use Rattle.float.specs.Cutoff.{Cutoff}
 use Rattle.table.specs.Links.{Link}
-use Rattle.table.specs.Lent.{FloatCost, RawCost, Ints, put_ints, Floats, put_floats}
+use Rattle.table.specs.Lent.{RawCost, Ints, put_ints, Floats, put_floats}
+use Rattle.table.specs.declared.FloatCost.{FloatCost}
 use Rattle.net.specs.Net.{Net, width}
 use Rattle.matrix.specs.Matrix.{buffers_of}
 use Rattle.table.specs.Promise.{ints_table, floats_table}

@@ -29,7 +29,7 @@ use lib.IntN.{ℤ}
 use lib.ListN.{length, take}
 use lib.Seq.{take_all}
 use Rattle.whole.proofs.Cases.{other}
-use Rattle.float.specs.declared.Cutoff.{Cutoff}
+use Rattle.float.specs.Cutoff.{Cutoff}
 use Rattle.table.specs.Links.{Link, Place, zip3, Arc, inside, lent_whole}
 use Rattle.table.specs.Lent.{room_ints, room_floats, float_costs, RawCost, ints_no, floats_no, Ints, ints_now, store_ints, put_ints, ints_put, Floats, floats_now, store_floats, put_floats, floats_put}
 use Rattle.table.specs.Feeds.{Kind, ints, floats, Feed, feed, fed, lasts_of, accepted, HoldsLasts, SameFeeds, SameMaps}

@@ -22,9 +22,10 @@ use Rattle.numbers.proofs.Numbers.{behind, itself}
 use Rattle.numbers.proofs.Beside.{beside, alike}
 use Rattle.clean.specs.Fill.{Settled}
 use Rattle.clean.specs.None.{none_i64, none_f64, shown}
-use Rattle.float.specs.declared.Cutoff.TheVariants.{None, At}
+use Rattle.std.specs.Prelude.{None, Some}
 use Rattle.table.specs.Links.{Link, Arc}
-use Rattle.table.specs.Lent.{FloatCost, float_cost}
+use Rattle.table.specs.Lent.{float_cost}
+use Rattle.table.specs.declared.FloatCost.{FloatCost}
 use Rattle.walks.specs.Walk.{Entry}
 use Rattle.walks.proofs.Over.{total_of}
 use Rattle.net.specs.Net.{Net, links_of, ArcOf, OpenArcOf, inside_net}
@@ -132,10 +133,10 @@ module _ {g : Net ℤ} {h : Net FloatCost} {s : ℕ} {b e : dijkstra.Buffers} {b
           same_number y.0 y.1 y.2 t
 
   -- a cutoff that is NaN or +infinity cuts nothing
-  pub exact_nan : dijkstra.Promise g s b e number → search.Promise h s (At nan) b' e' number' → (number ≡ 1 → ⊥) → (number' ≡ 1 → ⊥)
+  pub exact_nan : dijkstra.Promise g s b e number → search.Promise h s (Some nan) b' e' number' → (number ≡ 1 → ⊥) → (number' ≡ 1 → ⊥)
       → Agrees g.bound e.dist e'.memory.dist number number'
   exact_nan p r f f' = exact_case p (cutoff_nan.0 r) f f'
 
-  pub exact_infinity : dijkstra.Promise g s b e number → search.Promise h s (At (inf false)) b' e' number' → (number ≡ 1 → ⊥) → (number' ≡ 1 → ⊥)
+  pub exact_infinity : dijkstra.Promise g s b e number → search.Promise h s (Some (inf false)) b' e' number' → (number ≡ 1 → ⊥) → (number' ≡ 1 → ⊥)
       → Agrees g.bound e.dist e'.memory.dist number number'
   exact_infinity p r f f' = exact_case p (cutoff_infinity.0 r) f f'

@@ -22,8 +22,8 @@ use Rattle.numbers.proofs.Numbers.{itself}
 use Rattle.numbers.proofs.Beside.{Beside, beside, alike}
 use Rattle.walks.specs.Walk.{Entry}
 use Rattle.walks.proofs.Over.{entry_one}
-use Rattle.float.specs.declared.Cutoff.{Cutoff}
-use Rattle.table.specs.Lent.{FloatCost}
+use Rattle.float.specs.Cutoff.{Cutoff}
+use Rattle.table.specs.declared.FloatCost.{FloatCost}
 use Rattle.net.specs.Net.{Net, ArcOf, nodes_of, width, whole_net, inside_net, has, most_arcs_of}
 use Rattle.pending.specs.Setting.{End}
 use Rattle.rows.specs.Rows.{Lists, lists_of}

@@ -11,7 +11,8 @@ use Prim.Native.Nat.{ℕ, zero, suc}
 use lib.IntN.{ℤ}
 use lib.ListN.{take}
 use Rattle.table.specs.Links.{Link, link_of, zip3}
-use Rattle.table.specs.Lent.{FloatCost, float_costs}
+use Rattle.table.specs.Lent.{float_costs}
+use Rattle.table.specs.declared.FloatCost.{FloatCost}
 use Rattle.net.specs.Net.{net_of, net_of64, ArcOf}
 use Rattle.promises.specs.Exact.{WholeSize, pattern, converted, Converted}
 

@@ -5,7 +5,8 @@ use Rattle.std.specs.Float.{binary64}
 use Rattle.std.specs.Float.Ieee.{of_int, to_bits}
 use Rattle.clean.specs.None.{none_i64, none_f64}
 use Rattle.table.specs.Links.{Link, link_of}
-use Rattle.table.specs.Lent.{FloatCost, float_cost}
+use Rattle.table.specs.Lent.{float_cost}
+use Rattle.table.specs.declared.FloatCost.{FloatCost}
 use Rattle.net.specs.Net.{Net, links_of, ArcOf, has}
 
 -- a whole number from 0 to 2^31 - 1

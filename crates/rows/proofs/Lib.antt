@@ -1,6 +1,5 @@
 pub mod Back
 pub mod Sums
-pub mod Over
 pub mod Counts
 pub mod Places
 pub mod Ended

@@ -15,7 +15,8 @@ use lib.IntN.{ℤ, pos}
 use lib.ListN.{length, get_or, take}
 use lib.Seq.{length-take-le, get_or-take}
 use Rattle.table.specs.Links.{Link, link_of, zip3, links, ends, inside, all_inside, turned, arcs_of, arcs, Arc, Leads}
-use Rattle.table.specs.Lent.{FloatCost, float_cost, float_costs, OpenArc}
+use Rattle.table.specs.Lent.{float_cost, float_costs, OpenArc}
+use Rattle.table.specs.declared.FloatCost.{FloatCost}
 use Rattle.table.proofs.Laws.{zip_at, zip_long, costs_long, all_at, present_below, both_below}
 use Rattle.table.proofs.Arcs.{arc_inside}
 use Rattle.net.specs.Net.{Net, net_of, net_of64, links_of, ArcOf, OpenArcOf, whole_net, inside_net, most_arcs, most_arcs_of}

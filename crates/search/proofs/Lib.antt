@@ -1,5 +1,5 @@
 pub mod IntKind
 pub mod FloatKind
-pub mod Courses
 pub mod Runs
 pub mod Lists
+pub mod Target

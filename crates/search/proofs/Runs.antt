@@ -1,13 +1,11 @@
 -- With no heuristic and no target the bag is `dijkstra`'s, and its end says least totals, or 6.
 -- Assumes nothing.
 use mathlib.Core.Path.{◌≡◌, refl, sym, ap, ◌∙◌, subst}
-use mathlib.Core.Bool.{Bool}
 use mathlib.Core.List.{List, [], ◌∷◌}
 use mathlib.Core.Logic.{◌⊎◌, inl, inr}
 use mathlib.Core.Option.{Option, none, some}
 use Prim.Native.Nat.{ℕ, zero, suc, ◌≤◌, ◌<◌}
 use native.Mathlib.Omega.{arith}
-use borrow.Author.Tests.{le-ltb}
 use lib.IntN.{ℤ, pos}
 use lib.ListN.{length, get_or, take}
 use lib.Seq.{get_or-take}
@@ -18,7 +16,6 @@ use Rattle.walks.specs.Walk.{Least, Total}
 use Rattle.walks.proofs.Over.{walk_over, total_over}
 use Rattle.rows.specs.Rows.{Lists}
 use Rattle.rows.specs.RowArc.{RowArc}
-use Rattle.bag.specs.Order.{pick}
 use Rattle.pending.specs.Setting.{Setting, End}
 use Rattle.pending.specs.Ints.{whole, dijkstra}
 use Rattle.pending.specs.OnePlace.{begin, Ends}
@@ -26,8 +23,10 @@ use Rattle.pending.specs.Reach.{BadInReach}
 use Rattle.pending.specs.Answers.{DijkstraAnswer}
 use Rattle.pending.proofs.Dijkstra.{dijkstra_answer}
 use Rattle.turns.specs.Memory.{Memory, Shows}
-use Rattle.search.specs.Ints.{key_of, target_of, Asked, asked_of, setting_of, Fair, Fit}
-use Rattle.search.specs.Runs.{Ran, Cheap, ToAll, done, bad}
+use Rattle.search.specs.Ints.{key_of, asked_of, guided, Fair, Fit}
+use Rattle.turns.specs.Kind.{setting_of as setting_for}
+use Rattle.turns.specs.Firsts.{Ran}
+use Rattle.search.specs.Runs.{Cheap, ToAll, done, bad}
 
 -- a predecessor that the end names, read
 pub shown_pred : {e : End ℤ} {M : Memory ℤ} → Shows none_i64 e M → (v u : ℕ) → v < length M.preds → e.pred v ≡ some u → get_or M.preds v 0 ≡ u
@@ -50,28 +49,19 @@ no_key = λ i d v. step d v i
     step : (d : ℤ) (v : ℕ) → d ⊕ get_or (pos 0 ∷ []) v (pos 0) ≡ d
     step d v = ap (λ (x : ℤ). d ⊕ x) (zeros v) ∙ (let e : d ⊕ pos 0 ≡ d = omega (arith, zed, sum d (pos 0)) in e)
 
--- m itself is no target
-no_target : (m : ℕ) → target_of m m ≡ none
-unfolding target_of
-no_target m = ap (λ (b : Bool). pick b (some m) none) (le-ltb m m (omega arith))
-
--- the question
-abbrev plain : ℕ → ℕ → Asked
-plain m s = asked_of m s m (pos 0 ∷ [])
-
--- it is `dijkstra`'s
-setting_is : (m s : ℕ) → setting_of (plain m s) ≡ dijkstra s
-setting_is m s = λ i. whole (no_key i) (no_target m i) s
+-- the question is `dijkstra`'s
+setting_is : (s : ℕ) → setting_for (guided (pos 0 ∷ [])) none s ≡ dijkstra s
+setting_is s = λ i. whole (no_key i) none s
 
 module _ {m s : ℕ} {nb : Lists ℤ} where
   -- it fits the search
-  pub fits : Cheap m nb → s < m → Fit (plain m s) nb
+  pub fits : Cheap m nb → s < m → Fit (asked_of m s m (pos 0 ∷ [])) nb
   fits w h = record { rows = w.rows; source = h; first = zeros_fair s; fair = λ u v c a. zeros_fair v; cheap = w.cheap }
 
-  module _ {M M' : Memory ℤ} {number takes : ℕ} (w : Ran (plain m s) nb M M' number takes) (room : m ≤ length M.dist) where
+  module _ {M M' : Memory ℤ} {number takes : ℕ} (w : Ran (guided (pos 0 ∷ [])) m none s nb M M' number takes) (room : m ≤ length M.dist) where
     -- what the end says
     answer : DijkstraAnswer (RowArc m nb) s w.searched.end
-    answer = dijkstra_answer (RowArc m nb) s (subst (λ (S : Setting ℤ ℤ). Ends S (RowArc m nb) (begin S) 0 w.searched.end) (setting_is m s) w.searched.ends)
+    answer = dijkstra_answer (RowArc m nb) s (subst (λ (S : Setting ℤ ℤ). Ends S (RowArc m nb) (begin S) 0 w.searched.end) (setting_is s) w.searched.ends)
 
     -- each distance is the least total, or none without a walk
     total : w.searched.end.number ≡ 0 → (v : ℕ) → Total (RowArc m nb) s v (get_or (take m M'.dist) v none_i64)

@@ -1,5 +1,9 @@
 pub mod Ints
+pub mod Target
+pub mod Found
 pub mod Floats
 pub mod Steps
 pub mod Runs
 pub mod Lists
+pub mod IntRule
+pub mod FloatRule

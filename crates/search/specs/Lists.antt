@@ -13,8 +13,11 @@ has_memory m M =
     && (leb m (length M.words)
     && leb m (length M.keys))))
 
--- zero in the first m entries of each, and the rest as before
+-- x in the first m entries of the distances and the keys, 0 in those of the others, and the rest as before
+abbrev pub wiped_with : {K : Type 0} → K → ℕ → Memory K → Memory K
+wiped_with x m M =
+    memory_of (filled m x M.dist) (filled m 0 M.preds) (filled m 0 M.peaks) (filled m 0 M.words) (filled m x M.keys)
+
+-- zero in all of them
 abbrev pub wiped_memory : ℕ → Memory ℤ → Memory ℤ
-wiped_memory m M =
-    memory_of (filled m (pos 0) M.dist) (filled m 0 M.preds) (filled m 0 M.peaks) (filled m 0 M.words)
-    (filled m (pos 0) M.keys)
+wiped_memory = wiped_with (pos 0)

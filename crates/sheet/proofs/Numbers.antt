@@ -15,7 +15,7 @@ use lib.ListN.{get_or-replicate}
 use Rattle.whole.proofs.Cases.{clash, other, by_test, both_of}
 use Rattle.numbers.proofs.Numbers.{◌then◌, among}
 use Rattle.walks.specs.Pigeon.{In, here, there}
-use Rattle.table.specs.Lent.{FloatCost}
+use Rattle.table.specs.declared.FloatCost.{FloatCost}
 use Rattle.table.proofs.Laws.{whole, whole_of_no, all_of_no}
 use Rattle.net.specs.Net.{Net, whole_net, inside_net, most_arcs, most_arcs_of, width, has}
 use Rattle.net.proofs.Nodes.{width_most}
@@ -23,7 +23,7 @@ use Rattle.rows.specs.Scratch.{has_lists}
 use Rattle.search.specs.Lists.{has_memory}
 use Rattle.mapfile.specs.Load.{engine_may}
 use Rattle.mapfile.proofs.Loads.{loaded_bounded}
-use Rattle.float.specs.declared.Cutoff.{Cutoff}
+use Rattle.float.specs.Cutoff.{Cutoff}
 use Rattle.dijkstra.specs.Promise as dijkstra
 use Rattle.bellman_ford.specs.Promise as bellman
 use Rattle.a_star.specs.Promise as star

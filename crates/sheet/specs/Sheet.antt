@@ -1,7 +1,7 @@
 -- The sheet of a map file, to be laid beside 01: which text the program may print for the bytes of a file.
 -- Assumes nothing.
 use Rattle.std.specs.Prelude.{◌≡◌, true, false, List, ℕ, ℤ}
-use Rattle.table.specs.Lent.{FloatCost}
+use Rattle.table.specs.declared.FloatCost.{FloatCost}
 use Rattle.net.specs.Net.{Net, net_of, net_of64}
 use Rattle.mapfile.specs.Load.{State, loaded}
 use Rattle.text.specs.Text.{sound_text, bad_text}

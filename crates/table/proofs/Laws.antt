@@ -162,18 +162,12 @@ module _ {m n : ℕ} {marks xs ys : List ℕ} (w : Sized m n marks xs ys) {i : �
   link_within = omega (arith, ends_long xs ys n w.in_from w.in_to)
 
   -- one end absent ends the loop; both present is one link more
-  pub inside_stop_a : present m marks (get_or xs i 0) ≡ false → all_inside m marks (take n (ends xs ys)) ≡ false
-  unfolding present_both
-  inside_stop_a q = all_fails m marks (ends xs ys) (link_of 0 0 tt) i n h link_within (rw (link_at, q))
+  pub inside_stop : present_both m marks (get_or xs i 0) (get_or ys i 0) ≡ false → all_inside m marks (take n (ends xs ys)) ≡ false
+  inside_stop q = all_fails m marks (ends xs ys) (link_of 0 0 tt) i n h link_within (rw (link_at, q))
 
-  pub inside_stop_b : present m marks (get_or ys i 0) ≡ false → all_inside m marks (take n (ends xs ys)) ≡ false
-  unfolding present_both
-  inside_stop_b q = all_fails m marks (ends xs ys) (link_of 0 0 tt) i n h link_within (rw (link_at, q) (and_false (present m marks (get_or xs i 0))))
-
-  pub inside_step : all_inside m marks (take i (ends xs ys)) ≡ true → present m marks (get_or xs i 0) ≡ true → present m marks (get_or ys i 0) ≡ true →
+  pub inside_step : all_inside m marks (take i (ends xs ys)) ≡ true → present_both m marks (get_or xs i 0) (get_or ys i 0) ≡ true →
       all_inside m marks (take (i + 1) (ends xs ys)) ≡ true
-  unfolding present_both
-  inside_step e p q = rw add-one (all_more m marks (ends xs ys) (link_of 0 0 tt) i link_within e (rw (link_at, p, q)))
+  inside_step e p = rw add-one (all_more m marks (ends xs ys) (link_of 0 0 tt) i link_within e (rw (link_at, p)))
 
 -- the loop over all links
 pub inside_done : {m n : ℕ} {marks xs ys : List ℕ} {i : ℕ} → Sized m n marks xs ys × (i ≤ n) × (all_inside m marks (take i (ends xs ys)) ≡ true) → n ≤ i →

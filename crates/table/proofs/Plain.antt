@@ -12,7 +12,7 @@ use borrow.Author.Tests.{ltb-true, ltb-false, lt-ltb, ne_eqb}
 use lib.Dec.{ltb}
 use lib.ListN.{get_or, take}
 use Rattle.whole.proofs.Cases.{and_left, and_right}
-use Rattle.table.specs.Links.{present, ends, all_inside}
+use Rattle.table.specs.Links.{present, present_both, ends, all_inside}
 use Rattle.table.proofs.Laws.{Sized, inside_step}
 
 -- unless a test has failed, P holds at the first i places
@@ -35,6 +35,10 @@ marked_present : (m : ℕ) (marks : List ℕ) → ((k : ℕ) → k < m → get_o
 unfolding present
 marked_present m marks f i h = rw (lt-ltb i m h, ne_eqb (get_or marks i 0) 0 (f i h))
 
+both : (m : ℕ) (marks : List ℕ) (x y : ℕ) → present m marks x ≡ true → present m marks y ≡ true → present_both m marks x y ≡ true
+unfolding present_both
+both m marks x y p q = rw (p, q)
+
 -- the links are inside, place by place
 pub plain : {m n : ℕ} {marks xs ys : List ℕ} → Sized m n marks xs ys → ((k : ℕ) → k < m → get_or marks k 0 ≡ 0 → ⊥) → ((k : ℕ) → k < n → get_or xs k 0 < m) → ((k : ℕ) → k < n → get_or ys k 0 < m)
     → all_inside m marks (take n (ends xs ys)) ≡ true
@@ -44,7 +48,7 @@ plain {m} {n} {marks} {xs} {ys} w f p q = up n (omega arith)
     up zero h = refl
     up (suc i) h =
         let l : i < n = omega arith in
-        rw add-one at (inside_step w l (up i (omega arith)) (marked_present m marks f _ (p i l)) (marked_present m marks f _ (q i l)))
+        rw add-one at (inside_step w l (up i (omega arith)) (both _ _ _ _ (marked_present m marks f _ (p i l)) (marked_present m marks f _ (q i l))))
 
 -- a test that failed says nothing
 pub failed : {P : Type 0} → false ≡ true → P

@@ -10,7 +10,8 @@ use lib.Dec.{eqb}
 use lib.IntN.{ℤ}
 use lib.ListN.{length, set, length-set}
 use Rattle.table.specs.Links.{Link, link_of, zip3, Place}
-use Rattle.table.specs.Lent.{room_ints, room_floats, FloatCost, float_cost, float_costs, RawCost, float_seen, written, Ints, store_ints, put_ints, Floats, store_floats, put_floats}
+use Rattle.table.specs.Lent.{room_ints, room_floats, float_cost, float_costs, RawCost, float_seen, written, Ints, store_ints, put_ints, Floats, store_floats, put_floats}
+use Rattle.table.specs.declared.FloatCost.{FloatCost}
 use Rattle.table.specs.Feeds.{Kind, ints, floats}
 use Rattle.table.proofs.Tables.{recost, Table, store, put_table}
 use Rattle.table.proofs.Laws.{zip_long, room_ints_lem, room_floats_lem, not_fresh}

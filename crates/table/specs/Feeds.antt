@@ -3,7 +3,8 @@
 -- Assumes nothing.
 use Rattle.std.specs.Prelude.{◌≡◌, Bool, true, false, cond, ◌||◌, List, [], ◌∷◌, ◌++◌, map, ◌↔◌, ℕ, leb, eqb, ℤ, length, take}
 use Rattle.table.specs.Links.{Link, joins, zip3, present, all_inside, lent_whole, Arc}
-use Rattle.table.specs.Lent.{room_ints, room_floats, FloatCost, float_costs, RawCost, float_seen, Ints, ints_put, Floats, floats_put}
+use Rattle.table.specs.Lent.{room_ints, room_floats, float_costs, RawCost, float_seen, Ints, ints_put, Floats, floats_put}
+use Rattle.table.specs.declared.FloatCost.{FloatCost}
 
 -- a feed: each record is put into what the one before it left
 abbrev pub feed : {S R : Type 0} → (R → S → S) → S → List R → S

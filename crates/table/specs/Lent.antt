@@ -1,6 +1,7 @@
 -- The lent slices of both kinds of map: room, refusals 1 and 2, and what a put leaves in each slice.
 -- Assumes nothing.
 use Rattle.std.specs.Prelude.{Bool, true, cond, not, List, [], ◌∷◌, ℕ, ℤ, ltb, eqb, length, set}
+use Rattle.table.specs.declared.FloatCost.{FloatCost}
 use Rattle.table.specs.Links.{Link, link_of, zip3, table_no, Place, placing, Arc}
 
 -- the smaller of two sizes
@@ -19,12 +20,7 @@ room_ints xs ys cs = shorter (room_ends xs ys) (length cs)
 unfoldable pub room_floats : List ℕ → List ℕ → List ℕ → List ℕ → ℕ
 room_floats xs ys bs os = shorter (shorter (room_ends xs ys) (length bs)) (length os)
 
--- the cost of an f64 link as engines see it: its 64-bit pattern, and whether it is open
-pub record FloatCost : Type 0 where
-  pub bits : ℕ
-  pub opened : Bool
-
--- such a cost from its parts
+-- the cost of an f64 link as engines see it, from its pattern and whether it is open
 abbrev pub float_cost : ℕ → Bool → FloatCost
 float_cost x o = record { bits = x; opened = o }
 

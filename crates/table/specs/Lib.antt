@@ -2,3 +2,4 @@ pub mod Links
 pub mod Lent
 pub mod Feeds
 pub mod Promise
+pub mod Placed

@@ -1,7 +1,7 @@
 -- A table of links as a list: presence, refusals 1 and 2, the place where a record goes, and arcs. Once for any type C of a link's cost.
 -- Assumes nothing.
 use Rattle.std.specs.Prelude.{◌≡◌, Bool, true, false, cond, not, ◌&&◌, ◌||◌, List, [], ◌∷◌, ◌++◌, ◌⊎◌, ℕ, ◌+◌, ◌≤◌, ◌<◌, ltb, leb}
-use Rattle.std.specs.Prelude.{eqb, length, take, get_or}
+use Rattle.std.specs.Prelude.{eqb, length, take, get_or, Option, None, Some}
 
 -- a link, a record that is put, and an arc (from a to b); C is the type of its cost
 pub record Link (C : Type 0) : Type 0 where
@@ -52,6 +52,11 @@ pub record FirstPlace (d : Bool) (u v n : ℕ) (xs ys : List ℕ) (r : ℕ) : Ty
   pub within : r ≤ n
   pub before : (k : ℕ) → k < r → joins_ends d u v (get_or xs k 0) (get_or ys k 0) ≡ false
   pub found : r < n → joins_ends d u v (get_or xs r 0) (get_or ys r 0) ≡ true
+
+-- the place that is found: the first one, or none
+abbrev pub Found : Bool → ℕ → ℕ → ℕ → List ℕ → List ℕ → Option ℕ → Type 0
+Found d u v n xs ys (Some k) = (k < n) × FirstPlace d u v n xs ys k
+Found d u v n xs ys None = FirstPlace d u v n xs ys n
 
 -- an index that the map has: below m, with a mark that is not 0
 unfoldable pub present : ℕ → List ℕ → ℕ → Bool

@@ -10,7 +10,6 @@ use Prim.Native.Nat.{ℕ, ◌+◌, ◌≤◌, ◌<◌}
 use native.Mathlib.Omega.{arith}
 use native.Mathlib.Decide.{ℕ_discrete}
 use lib.ListN.{length, get_or, set}
-use Rattle.whole.proofs.Cases.{clash}
 use Rattle.clean.proofs.Filled.{no_default}
 use Rattle.rows.specs.Rows.{Lists}
 use Rattle.rows.specs.RowArc.{RowArc}
@@ -22,16 +21,13 @@ use Rattle.pending.specs.Laws.{OkCell}
 use Rattle.pending.proofs.Row.{Also, look_at, look_turned, new_map, look_cut, look_worse, look_store}
 use Rattle.pending.proofs.One.{cell_ok}
 use Rattle.turns.specs.Kind.{Kind, turn_of}
+use Rattle.turns.specs.Asks.{Asks, InRange, RowInRange}
 use Rattle.turns.specs.Memory.{Memory, cells_of, Good}
-use Rattle.turns.specs.Row.{better_at, Safe, Looked, past, kept, stored, Passed, Row, Opens, RowDone}
+use Rattle.turns.specs.Row.{better_at, worth, Safe, Looked, past, kept, stored, Passed, Row, Opens, BadArc, RowDone}
 use Rattle.turns.proofs.Lawful.{Lawful}
 use Rattle.turns.proofs.Cells.{cells_dist, entry_is, pred_back, stored_cells, stored_good}
 
 -- ---- one arc as the code looks at it
--- is a total worth storing? It is not past the cutoff, and better than what stands at the entry
-abbrev pub worth : {K C : Type 0} → Kind K C → K → K → Bool
-worth Y n old = not (Y.cut n) && better_at Y n old
-
 not_and : (a b : Bool) → (not a && b) ≡ true → (a ≡ false) × (b ≡ true)
 not_and false true z = (refl, refl)
 not_and false false z = absurd (true≢false (sym z))
@@ -121,7 +117,7 @@ module _ {K C : Type 0} {Y : Kind K C} {ok : K → Type 0} (W : Lawful Y ok) whe
 
       -- the arc at place i, and what the code read of its cost
       module _ {i n : ℕ} {M : Memory K} (r : Row Y m nb u d i n M₀ M) (l : i < get_or nb.offsets (u + 1) 0) {v : ℕ} (vi : v ≡ get_or nb.heads i 0)
-          (y : C) {c : C} (ci : c ≡ get_or nb.weights i y) {said : Bool} (test : said ≡ Y.bad (get_or nb.weights i y)) where
+          (y : C) {c : C} (ci : c ≡ get_or nb.weights i y) {said : Bool} (test : said ≡ Y.bad c) where
         cost : (z : C) → get_or nb.weights i z ≡ c
         cost z = no_default nb.weights i z y (omega (arith, o.rows.weights u o.index)) ∙ sym ci
 
@@ -129,12 +125,9 @@ module _ {K C : Type 0} {Y : Kind K C} {ok : K → Type 0} (W : Lawful Y ok) whe
         pub arc_read : RowArc m nb u v c
         arc_read = record { at = i; index = o.index; from = r.from; to = l; head = sym vi; cost = cost }
 
-        bad_is : said ≡ Y.bad c
-        bad_is = test ∙ ap Y.bad (sym ci)
-
         -- what an arc that is not bad asks
         pub row_safe : said ≡ false → Safe Y u d v c n M
-        row_safe f = let inside : v < m = o.rows.inside u v c arc_read in let b : Y.bad c ≡ false = sym bad_is ∙ f in record {
+        row_safe f = let inside : v < m = o.rows.inside u v c arc_read in let b : Y.bad c ≡ false = sym test ∙ f in record {
           tail = omega (arith, o.index, o.rows.bounded);
           in_d = omega (arith, r.good.long_d);
           in_p = omega (arith, r.good.long_p);
@@ -146,6 +139,10 @@ module _ {K C : Type 0} {Y : Kind K C} {ok : K → Type 0} (W : Lawful Y ok) whe
           lower = not_above_lem r.good u d v c d_good b;
         }
 
+        -- its sum and its key are in range where those of the row are
+        pub row_in_range : (A : Asks K C) → RowInRange Y A m nb u (get_or M₀.dist u Y.blank) → said ≡ false → InRange Y A d v c
+        row_in_range A w f = subst (λ (z : K). InRange Y A z v c) (sym entry_read) (w v c arc_read (sym test ∙ f))
+
         -- one arc more
         pub row_next : said ≡ false → {M' : Memory K} {n' : ℕ} → Looked Y u d v c n M M' n' → length M'.words ≡ length M.words → Row Y m nb u d (i + 1) n' M₀ M'
         row_next f {M'} {n'} w long = record {
@@ -156,7 +153,7 @@ module _ {K C : Type 0} {Y : Kind K C} {ok : K → Type 0} (W : Lawful Y ok) whe
         }
           where
             b : Y.bad c ≡ false
-            b = sym bad_is ∙ f
+            b = sym test ∙ f
 
             both : Good Y m M' n' × (cells_of Y M' ≡ look_at (turn_of Y) u d v c (cells_of Y M))
             both = looked r.good u d v c d_good b (o.rows.inside u v c arc_read) (omega (arith, o.index, o.rows.bounded)) w (long ∙ r.good.long_b)
@@ -180,16 +177,15 @@ module _ {K C : Type 0} {Y : Kind K C} {ok : K → Type 0} (W : Lawful Y ok) whe
             by_fine x y (inr e) = ap Y.bad e.1 ∙ b
 
         -- a bad cost
-        pub row_stops : said ≡ true → {bad : Bool} → bad ≡ true → RowDone Y m nb u M₀ M bad n
-        row_stops f e = record { good = r.good; stop = λ x. record { v = v; c = c; arc = arc_read; bad = sym bad_is ∙ f }; fine = λ f. absurd (clash e f); turned = λ f. absurd (clash e f) }
+        pub row_stops : said ≡ true → BadArc Y m nb u
+        row_stops f = record { v = v; c = c; arc = arc_read; bad = sym test ∙ f }
 
       -- all of it
-      pub row_ends : {i n : ℕ} {M : Memory K} {bad : Bool} → Row Y m nb u d i n M₀ M → get_or nb.offsets (u + 1) 0 ≤ i → bad ≡ false → RowDone Y m nb u M₀ M bad n
-      row_ends {i} {n} {M} r l e = record {
+      pub row_ends : {i n : ℕ} {M : Memory K} → Row Y m nb u d i n M₀ M → get_or nb.offsets (u + 1) 0 ≤ i → RowDone Y m nb u M₀ M n
+      row_ends {i} {n} {M} r l = record {
         good = r.good;
-        stop = λ f. absurd (clash f e);
-        fine = λ f v c a. r.fine v c (pass a);
-        turned = λ f v. new_map (turn_of Y) (λ c a. arc a) (λ c a. pass a) (subst (λ (z : K). NewCell (turn_of Y) (Passed nb u i v) u z (cells_of Y M₀ v) (cells_of Y M v)) entry_read (r.turned v));
+        fine = λ v c a. r.fine v c (pass a);
+        turned = λ v. new_map (turn_of Y) (λ c a. arc a) (λ c a. pass a) (subst (λ (z : K). NewCell (turn_of Y) (Passed nb u i v) u z (cells_of Y M₀ v) (cells_of Y M v)) entry_read (r.turned v));
       }
         where
           pass : {v : ℕ} {c : C} → RowArc m nb u v c → Passed nb u i v c

@@ -28,7 +28,7 @@ use Rattle.pending.proofs.Cells.{upd_here, upd_there, not_out}
 use Rattle.pending.proofs.Once.{Within, begin_within, next_within}
 use Rattle.turns.specs.Kind.{Kind, setting_of, turn_of}
 use Rattle.turns.specs.Memory.{Memory, memory_of, pred_in, is_pending, cells, cells_of, Good, Fresh}
-use Rattle.turns.specs.Row.{Opens, RowDone}
+use Rattle.turns.specs.Row.{Opens, BadArc, RowDone}
 use Rattle.turns.specs.Searched.{Started, Searched}
 use Rattle.turns.proofs.Lawful.{Lawful}
 use Rattle.turns.proofs.Cells.{content_long, set_upd, cells_mark, cells_dist, cells_pred, stored_cells, stored_good, fresh_cells, fresh_good, SameLong, same_long}
@@ -223,10 +223,10 @@ module _ {K C : Type 0} {Y : Kind K C} {m : ℕ} {target : Option ℕ} {source :
         shows = λ x. record { dist = w.good.tidy_d; preds = w.good.tidy_p };
       }
 
-      module _ {M' : Memory K} {n' : ℕ} {bad : Bool} (other : is_target target u ≡ false) (r : RowDone Y m nb u M₁ M' bad n') where
-        -- a bad cost
-        pub stops : bad ≡ true → {number takes : ℕ} → number ≡ 6 → takes ≡ t + 1 → Searched Y m target source nb M' number takes
-        stops e z y = let b = r.stop e in record {
+      module _ (other : is_target target u ≡ false) where
+        -- a bad cost, whatever the lists are then
+        pub stops : BadArc Y m nb u → {M' : Memory K} {number takes : ℕ} → number ≡ 6 → takes ≡ t + 1 → Searched Y m target source nb M' number takes
+        stops b z y = record {
           end = refused (suc t);
           ends = w.leads.to _ (wrong u popped.d popped.p popped.taken other b.v b.c b.arc b.bad);
           is = z;
@@ -234,28 +234,28 @@ module _ {K C : Type 0} {Y : Kind K C} {m : ℕ} {target : Option ℕ} {source :
           shows = λ x. absurd (omega (arith, x, z));
         }
 
-        -- the whole row is a turn
-        turn : bad ≡ false → Next (setting_of Y target source) (RowArc m nb) (cells_of Y M) (cells_of Y M')
-        turn e = record { u = u; d = popped.d; p = popped.p; taken = popped.taken; passed = other; good = r.fine e; turned = turned }
-          where
-            turned : (v : ℕ) → NewCell (setting_of Y target source) (RowArc m nb u v) u popped.d (upd (cells_of Y M) u (has popped.d popped.p false) v) (cells_of Y M' v)
-            turned v =
-                subst (λ (z : K). NewCell (setting_of Y target source) (RowArc m nb u v) u z (upd (cells_of Y M) u (has popped.d popped.p false) v) (cells_of Y M' v)) popped.entry
-                (subst (λ (f : ℕ → Cell K). NewCell (setting_of Y target source) (RowArc m nb u v) u (get_or M.dist u Y.blank) (f v) (cells_of Y M' v)) popped.is
-                (new_for Y target source (r.turned e v)))
+        module _ {M' : Memory K} {n' : ℕ} (r : RowDone Y m nb u M₁ M' n') where
+          -- the whole row is a turn
+          turn : Next (setting_of Y target source) (RowArc m nb) (cells_of Y M) (cells_of Y M')
+          turn = record { u = u; d = popped.d; p = popped.p; taken = popped.taken; passed = other; good = r.fine; turned = turned }
+            where
+              turned : (v : ℕ) → NewCell (setting_of Y target source) (RowArc m nb u v) u popped.d (upd (cells_of Y M) u (has popped.d popped.p false) v) (cells_of Y M' v)
+              turned v =
+                  subst (λ (z : K). NewCell (setting_of Y target source) (RowArc m nb u v) u z (upd (cells_of Y M) u (has popped.d popped.p false) v) (cells_of Y M' v)) popped.entry
+                  (subst (λ (f : ℕ → Cell K). NewCell (setting_of Y target source) (RowArc m nb u v) u (get_or M.dist u Y.blank) (f v) (cells_of Y M' v)) popped.is
+                  (new_for Y target source (r.turned v)))
 
-        module _ (fine : bad ≡ false) where
           within : Within (upto m) (cells_of Y M')
-          within = next_within (setting_of Y target source) (RowArc m nb) (upto m) source_in heads_in w.within (turn fine)
+          within = next_within (setting_of Y target source) (RowArc m nb) (upto m) source_in heads_in w.within turn
 
           kept : keeps (cells_of Y M') (suc t) × (left (cells_of Y M') (suc t) < left (cells_of Y M) t)
-          kept = way.again w.kept w.within (turn fine) within
+          kept = way.again w.kept w.within turn within
 
           -- so the loop goes on
           pub next : Head Y m target source nb keeps M' n' (t + 1)
           next =
               subst (Head Y m target source nb keeps M' n') (sym (add-one t))
-              (record { leads = leads_next (setting_of Y target source) (RowArc m nb) w.leads (turn fine); within = within; good = r.good; kept = kept.0 })
+              (record { leads = leads_next (setting_of Y target source) (RowArc m nb) w.leads turn; within = within; good = r.good; kept = kept.0 })
 
           -- and less is left
           pub falls : left (cells_of Y M') (t + 1) < left (cells_of Y M) t

@@ -33,3 +33,17 @@ setting_of Y target source =
 -- what one turn goes by: neither source nor target matters to it
 abbrev pub turn_of : {K C : Type 0} → Kind K C → Setting K C
 turn_of Y = setting_of Y none 0
+
+-- the same with an order of keys
+abbrev pub ordered : {K C : Type 0} → Keys K → Kind K C → Kind K C
+ordered o Y = record {
+  order = o;
+  zero = Y.zero;
+  plus = Y.plus;
+  key = Y.key;
+  bad = Y.bad;
+  cut = Y.cut;
+  blank = Y.blank;
+  read = Y.read;
+  good = Y.good;
+}

@@ -1,4 +1,5 @@
 pub mod Kind
+pub mod Asks
 pub mod Memory
 pub mod Row
 pub mod Searched

@@ -1,6 +1,6 @@
 -- One arc of an index that was taken, and its whole row: what the parts of a search promise each other.
 -- Assumes nothing.
-use Rattle.std.specs.Prelude.{◌≡◌, Bool, true, false, ◌⊎◌, ℕ, ◌+◌, ◌≤◌, ◌<◌, length, get_or, set}
+use Rattle.std.specs.Prelude.{◌≡◌, Bool, true, false, not, ◌&&◌, ◌⊎◌, ℕ, ◌+◌, ◌≤◌, ◌<◌, length, get_or, set}
 use Rattle.std.proofs.Math.Option.{some}
 use Rattle.rows.specs.Rows.{Lists}
 use Rattle.rows.specs.RowArc.{RowArc, Sound}
@@ -24,6 +24,10 @@ module _ {K C : Type 0} (Y : Kind K C) where
   -- is the total n better than what stands at an entry?
   abbrev pub better_at : K → K → Bool
   better_at n old = better (turn_of Y) n (Y.read old)
+
+  -- is it worth storing? It is not past the cutoff, and better
+  abbrev pub worth : K → K → Bool
+  worth n old = not (Y.cut n) && better_at n old
 
   -- what an arc of cost c from u, at the distance d, to v asks
   pub record Safe (u : ℕ) (d : K) (v : ℕ) (c : C) (n : ℕ) (M : Memory K) : Type 0 where
@@ -70,9 +74,8 @@ module _ {K C : Type 0} (Y : Kind K C) where
     pub arc : RowArc m nb u v c
     pub bad : Y.bad c ≡ true
 
-  -- a row looked through: up to a bad cost, or all of it
-  pub record RowDone (m : ℕ) (nb : Lists C) (u : ℕ) (M₀ M : Memory K) (bad : Bool) (n : ℕ) : Type 0 where
+  -- a row looked through, without a bad cost
+  pub record RowDone (m : ℕ) (nb : Lists C) (u : ℕ) (M₀ M : Memory K) (n : ℕ) : Type 0 where
     pub good : Good Y m M n
-    pub stop : bad ≡ true → BadArc m nb u
-    pub fine : bad ≡ false → (v : ℕ) (c : C) → RowArc m nb u v c → Y.bad c ≡ false
-    pub turned : bad ≡ false → Turned (turn_of Y) (RowArc m nb u) u (get_or M₀.dist u Y.blank) (cells_of Y M₀) (cells_of Y M)
+    pub fine : (v : ℕ) (c : C) → RowArc m nb u v c → Y.bad c ≡ false
+    pub turned : Turned (turn_of Y) (RowArc m nb u) u (get_or M₀.dist u Y.blank) (cells_of Y M₀) (cells_of Y M)

@@ -17,7 +17,7 @@ pub fn plus(d: i64, c: i64) -> i64
 pub fn widen(c: i32) -> i64
     ensures { result ≡ c }
 {
-    c as i64
+    i64::from(c)
 }
 
 // Is a below b?

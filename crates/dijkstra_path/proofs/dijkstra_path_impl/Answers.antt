@@ -3,7 +3,7 @@
 -- predecessors are blanked: the two answers are laws of proofs/Answers.antt, at what the calls gave.
 -- Assumes nothing.
 use mathlib.Core.Path.{sym, ◌∙◌}
-use Rattle.table.specs.Lent.{FloatCost}
+use Rattle.table.specs.declared.FloatCost.{FloatCost}
 use Rattle.net.specs.Net.{Net, net_of64}
 use Rattle.net.proofs.Bounds.{whole_floats}
 use Rattle.rows.proofs.Maps.{ready_floats}

@@ -24,9 +24,6 @@ bounds-nodes-p c = listing_room c.loop-i.invariant c.loop-i-test.true c.requires
 pub overflow_add-p : goal.overflow_add-p
 overflow_add-p c = let h = listing_room c.loop-i.invariant c.loop-i-test.true c.requires.2 c.if-marks-i-ne0.true in search rules
 
-pub overflow_add-i : goal.overflow_add-i
-overflow_add-i c = omega (arith, c.requires.0)
-
 pub loop-i-preserved : goal.loop-i-preserved
 loop-i-preserved c =
     elim c.if-marks-i-ne0.branch [

@@ -1,12 +1,9 @@
 -- `table::all_below` meets its contract.
 -- Assumes nothing.
-use Prim.Native.Nat.{ℕ, ◌-◌, ◌≤◌, ◌<◌}
-use lib.ListN.{length, get_or}
+use Prim.Native.Nat.{ℕ, ◌<◌}
+use lib.ListN.{get_or}
 use Rattle.table.proofs.Plain.{Until}
 use Rattle.table.proofs.all_below.Given as goal
 
-abbrev pub invariant-loop-j : goal.invariant-loop-j
-invariant-loop-j l = (l.j ≤ l.n) × (l.n ≤ length l.xs) × Until (λ (k : ℕ). get_or l.xs k 0 < l.top) l.j l.good
-
-abbrev pub decreases-loop-j : goal.decreases-loop-j
-decreases-loop-j l = l.n - l.j
+abbrev pub invariant-loop-x : goal.invariant-loop-x
+invariant-loop-x l = Until (λ (k : ℕ). get_or l.x-items k 0 < l.top) l.x-index l.good

@@ -9,12 +9,6 @@ use Rattle.bag.proofs.peaks.first_of_rest.Goals as goal
 pub loop-k-init : goal.loop-k-init
 loop-k-init c = (rest_room _ _ _ _ c.requires.w_value.0 c.requires.w_value.1, omega arith, rest_none _ _ _)
 
-pub sooner-r-requires : goal.sooner-r-requires
-sooner-r-requires c = omega (arith, c.requires.end_in_bounds.0, c.loop-k.invariant.1, c.loop-k-test.true)
-
-pub loop-k-smaller : goal.loop-k-smaller
-loop-k-smaller c = omega (arith, c.loop-k-test.true)
-
 pub loop-k-preserved : goal.loop-k-preserved
 loop-k-preserved c =
     let more = c.loop-k-test.true in

@@ -6,6 +6,3 @@ use Rattle.bag.proofs.peaks.first_of_rest.Given as goal
 
 abbrev pub invariant-loop-k : goal.invariant-loop-k
 invariant-loop-k l = (l.i ≤ l.k) × (l.k ≤ l.end) × (l.r ≡ first_from l.list l.k (l.end - l.k) l.w)
-
-abbrev pub decreases-loop-k : goal.decreases-loop-k
-decreases-loop-k l = l.k

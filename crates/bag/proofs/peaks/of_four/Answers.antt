@@ -5,4 +5,4 @@ use Rattle.bag.proofs.Largest.{peak_halves}
 use Rattle.bag.proofs.peaks.of_four.Goals as goal
 
 pub returns : goal.returns
-returns c = c.larger.ensures ∙ ap₂ max c.of_two.ensures c.of_two-2.ensures ∙ peak_halves _ _ 2
+returns c = c.max.ensures ∙ ap₂ max c.of_two.ensures c.of_two-2.ensures ∙ peak_halves _ _ 2

@@ -10,7 +10,7 @@ returns-then-i-end c =
     let e : 8 ≡ span c.args.i c.args.end = omega (arith, c.if-i-end.true) in
     c.of_eight.ensures ∙ ap (peak c.args.list.now c.args.i) e
 
-pub returns : goal.returns
-returns c =
+pub returns-else-i-end : goal.returns-else-i-end
+returns-else-i-end c =
     let e : c.args.end - c.args.i ≡ span c.args.i c.args.end = omega (arith, c.if-i-end.false) in
     c.of_rest.ensures ∙ ap (peak c.args.list.now c.args.i) e

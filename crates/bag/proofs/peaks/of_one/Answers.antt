@@ -11,7 +11,7 @@ returns-then-i-end c =
     let e : c.args.end - c.args.i ≡ 1 = omega (arith, c.requires.3, c.if-i-end.true) in
     sym (ap (peak c.args.list.now c.args.i) e ∙ peak_one _ _)
 
-pub returns : goal.returns
-returns c =
+pub returns-else-i-end : goal.returns-else-i-end
+returns-else-i-end c =
     let e : c.args.end - c.args.i ≡ 0 = omega (arith, c.if-i-end.false) in
     sym (ap (peak c.args.list.now c.args.i) e ∙ peak_none _ _)

@@ -9,7 +9,4 @@ use Rattle.bag.proofs.peaks.of_rest.Goals as goal
 pub returns-then-i-end : goal.returns-then-i-end
 returns-then-i-end c =
     let e : 4 + (c.args.end - (c.args.i + 4)) ≡ c.args.end - c.args.i = omega (arith, c.if-i-end.true) in
-    c.larger.ensures ∙ ap₂ max c.of_four.ensures c.of_three.ensures ∙ sym (peak_parts _ _ 4 _) ∙ ap (peak c.args.list.now c.args.i) e
-
-pub returns : goal.returns
-returns c = c.of_three-2.ensures
+    c.max.ensures ∙ ap₂ max c.of_four.ensures c.of_three.ensures ∙ sym (peak_parts _ _ 4 _) ∙ ap (peak c.args.list.now c.args.i) e

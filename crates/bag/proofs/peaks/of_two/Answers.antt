@@ -4,4 +4,4 @@ use Rattle.bag.proofs.Largest.{peak_two}
 use Rattle.bag.proofs.peaks.of_two.Goals as goal
 
 pub returns : goal.returns
-returns c = c.larger.ensures ∙ peak_two _ _
+returns c = c.max.ensures ∙ peak_two _ _
