@@ -1,7 +1,10 @@
 // The questions of f64 maps on a case of the list, with room for 8 indices and 16 links: no case has more.
+use crate::maps;
 use crate::reads::Line;
-use crate::{ints, maps};
-use float::Cutoff;
+use net::{Floats, Lent};
+use numbers::Refusal;
+use rows::Lists;
+use search::Memory;
 use table::Map;
 
 const MINUS_ZERO: u64 = 0x8000_0000_0000_0000;
@@ -21,13 +24,6 @@ pub struct Case {
     opens: [u8; 16],
 }
 
-// The two names of the search.
-#[derive(Clone, Copy)]
-pub enum Name {
-    Impl,
-    F64,
-}
-
 // A cutoff by its bits. Past those of +infinity the list has -0.0, -1.0 and one NaN.
 fn cutoff_of(bits: u64) -> Option<f64> {
     match bits {
@@ -39,51 +35,24 @@ fn cutoff_of(bits: u64) -> Option<f64> {
     }
 }
 
-// The cutoff of a case: 0 and 0 for none, else 1 and the bits.
-fn read_cutoff(line: &mut Line<'_>) -> Option<Cutoff> {
-    if line.flag()? {
-        return Some(Cutoff::At(cutoff_of(line.bits()?)?));
-    }
-    line.whole(0)?;
-    Some(Cutoff::None)
-}
-
-// Number, and after 0 the distances and the predecessors.
-fn see_search(
-    number: usize,
-    dist: &[u64],
-    preds: &[u32],
-    n: usize,
-    line: &mut Line<'_>,
-) -> Option<bool> {
-    match line.number()? {
-        0 => {
-            let totals = line.same(dist, n)?;
-            let before = line.same(preds, n)?;
-            Some(number == 0 && totals && before)
-        }
-        refusal => Some(number == refusal),
-    }
-}
-
 impl Case {
     // Reads the map and puts its records.
     pub fn read(line: &mut Line<'_>) -> Option<Case> {
-        let mut marks = [0u8; 8];
-        let mut from = [0u16; 16];
-        let mut to = [0u16; 16];
-        let mut bits = [0u64; 16];
-        let mut opens = [0u8; 16];
+        let mut marks = [0; 8];
+        let mut from = [0; 16];
+        let mut to = [0; 16];
+        let mut bits = [0; 16];
+        let mut opens = [0; 16];
         let mut map = maps::read_head(line, &mut marks)?;
         for _ in 0..line.whole(maps::RECORDS)? {
             let a = line.end()?;
             let b = line.end()?;
             let cost = line.bits()?;
             let open = line.whole(255)? as u8;
-            let done = table::put_f64(
+            map.count = table::put_f64(
                 map, &marks, &mut from, &mut to, &mut bits, &mut opens, a, b, cost, open,
-            );
-            map = maps::taken(map, done)?;
+            )
+            .ok()?;
         }
         Some(Case {
             map,
@@ -95,81 +64,64 @@ impl Case {
         })
     }
 
-    // dijkstra_path_impl or dijkstra_path_f64: source, cutoff; number, distances, predecessors.
-    pub fn path(&self, name: Name, line: &mut Line<'_>) -> Option<bool> {
-        let source = line.index()?;
-        let cutoff = read_cutoff(line)?;
-        let mut dist = [0u64; 8];
-        let mut preds = [0u32; 8];
-        let mut offsets = [0usize; 9];
-        let mut heads = [0u16; 32];
-        let mut weights = [0u64; 32];
-        let mut peaks = [0usize; 8];
-        let mut words = [0usize; 8];
-        let mut keys = [0u64; 8];
-        let number = match name {
-            Name::Impl => dijkstra_path::dijkstra_path_impl(
-                self.map,
-                &self.marks,
-                &self.from,
-                &self.to,
-                &self.bits,
-                &self.opens,
-                source,
-                cutoff,
-                &mut dist,
-                &mut preds,
-                &mut offsets,
-                &mut heads,
-                &mut weights,
-                &mut peaks,
-                &mut words,
-                &mut keys,
-            ),
-            Name::F64 => dijkstra_path::dijkstra_path_f64(
-                self.map,
-                &self.marks,
-                &self.from,
-                &self.to,
-                &self.bits,
-                &self.opens,
-                source,
-                cutoff,
-                &mut dist,
-                &mut preds,
-                &mut offsets,
-                &mut heads,
-                &mut weights,
-                &mut peaks,
-                &mut words,
-                &mut keys,
-            ),
-        };
-        see_search(number, &dist, &preds, self.map.bound, line)
+    // The map, lent.
+    fn net(&self) -> Lent<'_, Floats<'_>> {
+        Lent {
+            map: self.map,
+            marks: &self.marks,
+            from: &self.from,
+            to: &self.to,
+            costs: Floats {
+                bits: &self.bits,
+                opens: &self.opens,
+            },
+        }
     }
 
-    // hops_f64: number, count of nodes, nodes, size of the matrix, matrix.
+    // A search: source, 0 and 0 without a cutoff or 1 and its bits; number, and after 0 the distances and the predecessors.
+    pub fn path<
+        F: Fn(
+            Lent<'_, Floats<'_>>,
+            usize,
+            Option<f64>,
+            &mut Lists<'_, u64>,
+            &mut Memory<'_, u64>,
+        ) -> Result<(), Refusal>,
+    >(&self, line: &mut Line<'_>, search: F) -> Option<bool>
+        requires { F.IsAlwaysCallable search }
+    {
+        let source = line.index()?;
+        let cutoff = if line.flag()? {
+            Some(cutoff_of(line.bits()?)?)
+        } else {
+            line.whole(0)?;
+            None
+        };
+        let mut lists = Lists {
+            offsets: &mut [0; 9],
+            heads: &mut [0; 32],
+            weights: &mut [0; 32],
+        };
+        let mut memory = Memory {
+            dist: &mut [0; 8],
+            preds: &mut [0; 8],
+            peaks: &mut [0; 8],
+            words: &mut [0; 8],
+            keys: &mut [0; 8],
+        };
+        let done = search(self.net(), source, cutoff, &mut lists, &mut memory);
+        match line.number()? {
+            0 => {
+                let dist = line.same(memory.dist, self.map.bound)?;
+                let preds = line.same(memory.preds, self.map.bound)?;
+                Some(done.is_ok() && dist && preds)
+            }
+            refusal => Some(numbers::number(done) == refusal),
+        }
+    }
+
+    // hops_f64.
     pub fn hops(&self, line: &mut Line<'_>) -> Option<bool> {
-        let mut nodes = [0u32; 8];
-        let mut matrix = [0u32; 64];
-        let mut offsets = [0usize; 9];
-        let mut heads = [0u16; 32];
-        let mut labels = [0usize; 8];
-        let mut queue = [0usize; 9];
-        let counted = hops::hops_f64(
-            self.map,
-            &self.marks,
-            &self.from,
-            &self.to,
-            &self.bits,
-            &self.opens,
-            &mut nodes,
-            &mut matrix,
-            &mut offsets,
-            &mut heads,
-            &mut labels,
-            &mut queue,
-        );
-        ints::see_hops(counted, &nodes, &matrix, line)
+        maps::replay_hops(self.net(), line)
     }
 }

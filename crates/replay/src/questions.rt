@@ -1,5 +1,4 @@
 // The questions of the list, by their numbers there.
-use crate::floats::Name;
 use crate::reads::Line;
 use crate::{floats, ints};
 
@@ -54,8 +53,14 @@ impl Question {
             Question::FloydWarshall => ints::Case::read(line)?.floyd_warshall(line),
             Question::Johnson => ints::Case::read(line)?.johnson(line),
             Question::Hops => ints::Case::read(line)?.hops(line),
-            Question::DijkstraPathImpl => floats::Case::read(line)?.path(Name::Impl, line),
-            Question::DijkstraPathF64 => floats::Case::read(line)?.path(Name::F64, line),
+            Question::DijkstraPathImpl => floats::Case::read(line)?.path(
+                line,
+                dijkstra_path::dijkstra_path_impl,
+            ),
+            Question::DijkstraPathF64 => floats::Case::read(line)?.path(
+                line,
+                dijkstra_path::dijkstra_path_f64,
+            ),
             Question::HopsF64 => floats::Case::read(line)?.hops(line),
         }
     }
