@@ -28,7 +28,7 @@ use Rattle.net.proofs.Totals.{total_within}
 use Rattle.matrix.specs.Matrix.{square, Matrix, buffers_of}
 use Rattle.matrix.proofs.Matrix.{place_in, closed_up}
 use Rattle.floyd_warshall.specs.Promise.{Promise}
-use Rattle.floyd_warshall.specs.Rounds.{pick_z, cell, after, any_below, Strided, Begun, Refused, Complete, Rounded}
+use Rattle.floyd_warshall.specs.Rounds.{pick_z, cell, after, any_below, Begun, Refused, Complete, Rounded}
 use Rattle.floyd_warshall.specs.Filling.{refusal_no, Sound, Ranked, Started, Costs32Below, poured, shown, MatrixShown, Solved}
 use Rattle.floyd_warshall.proofs.Turns.{none_below, some_below}
 use Rattle.floyd_warshall.proofs.Totals.{refused, never, near_entry, far_entry}
@@ -109,16 +109,6 @@ module _ (m n : ℕ) (d : Bool) (marks xs ys : List ℕ) (cs : List ℤ) (ranks 
   module _ {p : ℕ} (w : p ≡ width g) {l : List ℤ} (q : Prepared p l) where
     there : Prepared (width g) l
     there = subst (λ (x : ℕ). Prepared x l) w q
-
-    pub ask_diagonal : Strided 0 (p + 1) p l
-    ask_diagonal =
-        let s = few m n d marks xs ys cs ranks S R in
-        record {
-          few = omega (arith, w, s);
-          short = omega (arith, w, s);
-          early = omega arith;
-          within = λ i h. rw (diagonal_place p i) (subst (λ (x : ℕ). i * x + i < length l) (sym w) (omega (arith, size_of there, place_in (width g) i i (omega (arith, w)) (omega (arith, w)))));
-        }
 
     pub solved_first : {b : Bool} → b ≡ any_below l 0 (p + 1) p → b ≡ true → Negative (ArcOf g)
     solved_first e t = below_first there (subst (λ (x : ℕ). any_below l 0 (x + 1) x ≡ true) w (sym e ∙ t))

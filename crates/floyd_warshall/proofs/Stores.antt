@@ -11,15 +11,14 @@ use native.Mathlib.Numerals.{add-one}
 use native.Mathlib.Omega.{arith}
 use lib.IntN.{ℤ, pos}
 use lib.ListN.{length, get_or, set, drop, length-set}
-use lib.Seq.{get_or-set_same, get_or-set_other}
 use Rattle.clean.specs.Fill.{filled}
 use Rattle.clean.proofs.Filled.{filled_length, filled_at}
 use Rattle.matrix.proofs.Matrix.{place_in}
-use Rattle.floyd_warshall.specs.Rounds.{lesser, cell, lower_at, block, Block}
+use Rattle.floyd_warshall.specs.Rounds.{lesser, cell, lower_at, block}
 use Rattle.table.specs.Links.{Link, links}
-use Rattle.whole.specs.Zed.{◌⊕◌, Within, Cost32}
-use Rattle.floyd_warshall.specs.Filling.{Square, Started, shown, MatrixShown, linked, poured, Costs32Below}
-use Rattle.floyd_warshall.proofs.Poured.{next_link, no_link}
+use Rattle.whole.specs.Zed.{◌⊕◌, Cost32}
+use Rattle.floyd_warshall.specs.Filling.{Square, shown, linked, poured, Costs32Below}
+use Rattle.floyd_warshall.proofs.Poured.{next_link}
 use Rattle.floyd_warshall.proofs.Cells.{cell_same, cell_row, cell_column}
 
 -- the diagonal set to zero below i
@@ -57,30 +56,12 @@ starting_more p i l h r =
         (cell_column p l i i v (pos 0) (λ f. n (e ∙ sym f)) ∙ subst (λ (x : ℕ). cell p l x v ≡ pos (2 ^ 50)) e (r.far u v k j n))
     off u v k j n (no e) = cell_row p l i i u v (pos 0) h j e ∙ r.far u v k j n
 
-pub started : (p i : ℕ) (l : List ℤ) → p ≤ i → Starting p i l → Started p l
-started p i l h r = record { square = r.square; zero = λ u k. r.zeroed u (omega arith); far = r.far }
-
 -- shown below x
 pub record Showing (l₀ : List ℤ) (x : ℕ) (l : List ℤ) : Type 0 where
   pub within : x ≤ length l₀
   pub size : length l ≡ length l₀
   pub at : (y : ℕ) → y < x → get_or l y (pos 0) ≡ shown (get_or l₀ y (pos 0))
   pub rest : (y : ℕ) → x ≤ y → get_or l y (pos 0) ≡ get_or l₀ y (pos 0)
-
-pub showing_more : (l₀ : List ℤ) (x : ℕ) (l : List ℤ) (z : ℤ) → x < length l → z ≡ shown (get_or l x (pos 0)) → Showing l₀ x l → Showing l₀ (x + 1) (set l x z)
-showing_more l₀ x l z h e r = record {
-  within = omega (arith, r.size);
-  size = length-set l x z ∙ r.size;
-  at = λ y k. go y (ℕ_discrete y x) k;
-  rest = λ y k. get_or-set_other l x y z (pos 0) (λ f. omega arith) ∙ r.rest y (omega arith);
-}
-  where
-    go : (y : ℕ) → Dec (y ≡ x) → y < x + 1 → get_or (set l x z) y (pos 0) ≡ shown (get_or l₀ y (pos 0))
-    go y (yes q) k = subst (λ (w : ℕ). get_or (set l x z) w (pos 0) ≡ shown (get_or l₀ w (pos 0))) (sym q) (get_or-set_same l x z (pos 0) h ∙ (e ∙ ap shown (r.rest x (omega arith))))
-    go y (no q) k = get_or-set_other l x y z (pos 0) q ∙ r.at y (omega (arith, q))
-
-pub all_shown : (l₀ : List ℤ) (x : ℕ) (l : List ℤ) → length l ≤ x → Showing l₀ x l → MatrixShown l₀ l
-all_shown l₀ x l h r = record { size = r.size; at = λ y k. r.at y (omega (arith, r.size)) }
 
 -- the first x entries of a block lowered
 pub record Lowering (at by : ℕ) (a : ℤ) (n : ℕ) (l₀ : List ℤ) (x : ℕ) (l : List ℤ) : Type 0 where
@@ -94,15 +75,9 @@ module _ {at by : ℕ} {a : ℤ} {n : ℕ} {l₀ : List ℤ} where
   lowering_first = record { within = omega arith; size = refl; same = refl }
 
   module _ {x : ℕ} {l : List ℤ} (r : Lowering at by a n l₀ x l) where
-    pub lowering_small : Block at by a n l₀ → x < n → Within (2 ^ 60) (get_or l (by + x) (pos 0))
-    lowering_small b h = subst (λ (t : List ℤ). Within (2 ^ 60) (get_or t (by + x) (pos 0))) (sym r.same) (b.each x h)
-
     pub lowering_more : {z : ℤ} → x < n → z ≡ lesser (get_or l (at + x) (pos 0)) (a ⊕ get_or l (by + x) (pos 0)) → Lowering at by a n l₀ (x + 1) (set l (at + x) z)
     unfolding block
     lowering_more {z} h e = rw (add-one x) (record { within = h; size = length-set l (at + x) z ∙ r.size; same = ap (set l (at + x)) e ∙ ap (lower_at at by a x) r.same })
-
-    pub lowering_done : n ≤ x → l ≡ block at by a n l₀
-    lowering_done h = let e : x ≡ n = omega (arith, r.within) in r.same ∙ ap (λ (y : ℕ). block at by a y l₀) e
 
 -- the links below e poured
 pub record Pouring (d : Bool) (p : ℕ) (r : List ℕ) (n : ℕ) (xs ys : List ℕ) (cs l₀ : List ℤ) (e : ℕ) (l : List ℤ) : Type 0 where
@@ -127,8 +102,3 @@ module _ {d : Bool} {p : ℕ} {r : List ℕ} {n : ℕ} {xs ys : List ℕ} {cs l�
       go : (x : ℕ) → Dec (x ≡ e) → x < e + 1 → Cost32 (get_or cs x (pos 0))
       go x (yes y) i = subst (λ (t : ℕ). Cost32 (get_or cs t (pos 0))) (sym y) f
       go x (no y) i = q.fits x (omega (arith, y))
-
-  pub pouring_done : n ≤ e → Costs32Below cs n × (l ≡ poured d p r (links n xs ys cs) l₀)
-  pouring_done h =
-      let y : e ≡ n = omega (arith, q.within) in
-      (subst (Costs32Below cs) y q.fits, sym (ap (λ (t : List (Link ℤ)). poured d p r t l) (ap (λ (x : ℕ). drop x (links n xs ys cs)) y ∙ no_link n xs ys cs)) ∙ q.same)

@@ -8,7 +8,6 @@ use mathlib.Core.List.{List}
 use Prim.Native.Nat.{ℕ, zero, suc, ◌+◌, ◌-◌, ◌*◌, ◌^◌, ◌≤◌, ◌<◌}
 use native.Mathlib.Decide.{ℕ_discrete, dec_lt}
 use native.Mathlib.Nat.{mul-le-mul_right}
-use native.Mathlib.Numerals.{add-one}
 use native.Mathlib.Omega.{arith}
 use lib.IntN.{ℤ, pos}
 use lib.ListN.{length, get_or, set, length-set}
@@ -16,7 +15,7 @@ use lib.Signed.{lt_z, ◌≤ℤ◌, ◌<ℤ◌}
 use Rattle.whole.specs.Zed.{◌⊕◌, zed, sum, Within}
 use Rattle.whole.proofs.Cases.{or_no}
 use Rattle.matrix.proofs.Matrix.{square_small}
-use Rattle.floyd_warshall.specs.Rounds.{lesser, cell, block, Block, after, Diagonal, reaching, any_below, Begun, Refused, Complete}
+use Rattle.floyd_warshall.specs.Rounds.{lesser, cell, block, Block, after, Diagonal, reaching, any_below, Begun, Refused}
 use Rattle.floyd_warshall.proofs.Cells.{cell_same, cell_row, cell_column}
 use Rattle.floyd_warshall.proofs.Triangle.{lesser_first, one_more, below_first, kept_row, stays_near}
 
@@ -25,13 +24,10 @@ either : (x : Bool) {y : Bool} → y ≡ true → (x || y) ≡ true
 either true e = refl
 either false e = e
 
-pub nothing_below : (l : List ℤ) (first step : ℕ) → any_below l first step 0 ≡ false
+pub none_is : (l : List ℤ) (first step n : ℕ) → ((i : ℕ) → i < n → lt_z (get_or l (first + i * step) (pos 0)) (pos 0) ≡ false) → any_below l first step n ≡ false
 unfolding any_below
-nothing_below l first step = refl
-
-pub below_more : (l : List ℤ) (first step n : ℕ) → any_below l first step n ≡ false → lt_z (get_or l (first + n * step) (pos 0)) (pos 0) ≡ false → any_below l first step (n + 1) ≡ false
-unfolding any_below
-below_more l first step n e f = ap (any_below l first step) (add-one n) ∙ rw (e, f)
+none_is l first step zero f = refl
+none_is l first step (suc n) f = rw (none_is l first step n (λ i h. f i (omega arith)), f n (omega arith))
 
 pub none_below : (l : List ℤ) (first step n : ℕ) → any_below l first step n ≡ false → (i : ℕ) → i < n → pos 0 ≤ℤ get_or l (first + i * step) (pos 0)
 unfolding any_below
@@ -108,25 +104,6 @@ module _ {p : ℕ} {l₀ : List ℤ} where
       first : Diagonal (cell p l₀) p 0
       first zero u h i = b.up u i
       first (suc k) u h i = absurd (omega arith)
-
-  pub rows_first : {k : ℕ} {l : List ℤ} → k < p → Round p l₀ k l → Rows p l₀ k 0 l
-  rows_first h r =
-      record { begun = r.begun; turn = h; here = omega arith; size = r.size; up = r.up; done = λ u v i. absurd (omega arith); fine = λ u i. absurd (omega arith); next = λ u v i. r.all u v }
-
-  pub turn_first : {k i : ℕ} {l : List ℤ} → i < p → Rows p l₀ k i l → Turn p l₀ k i 0 l
-  turn_first {k} {i} {l} h r = record {
-    begun = r.begun;
-    turn = r.turn;
-    here = h;
-    at = omega arith;
-    size = r.size;
-    up = r.up;
-    done = r.done;
-    fine = r.fine;
-    part = λ v q. absurd (omega arith);
-    rest = λ v q. r.next i v (omega arith) h;
-    next = λ u v q. r.next u v (omega arith);
-  }
 
   -- while no diagonal entry is below zero, entries are small
   small : (k : ℕ) → k < p → Begun p l₀ → Diagonal (cell p l₀) p k → (u v : ℕ) → u < p → v < p → Within (2 ^ 60) (after (cell p l₀) k u v)
@@ -230,10 +207,6 @@ module _ {p : ℕ} {l₀ : List ℤ} where
       on u (yes f) q = subst (λ (x : ℕ). pos 0 ≤ℤ after (cell p l₀) (suc k) x x) (sym f) diag
       on u (no f) q = fine u (omega (arith, f))
 
-  -- the diagonal entry is tested: before the columns, where it stands as the round before left it, and after a block
-  pub up_first : {k i : ℕ} {l : List ℤ} → i < p → Rows p l₀ k i l → pos 0 ≤ℤ cell p l i i
-  up_first {k} {i} h r = subst (λ (z : ℤ). pos 0 ≤ℤ z) (sym (r.next i i (omega arith) h h)) (r.up k i (omega arith) h)
-
   module _ {k i j : ℕ} {l : List ℤ} (r : Turn p l₀ k i j l) where
     pub row_done : p ≤ j → pos 0 ≤ℤ cell p l i i → Rows p l₀ k (i + 1) l
     row_done h e = row_more r.here r.turn r.begun r.size r.up r.done r.fine r.next (λ v w. r.part v (omega arith))
@@ -269,20 +242,3 @@ module _ {p : ℕ} {l₀ : List ℤ} where
           one_more (cell p l₀) k i v
           ∙ lesser_first (after (cell p l₀) k i v) (after (cell p l₀) k i k ⊕ after (cell p l₀) k k v)
           (omega (arith, zed, e, r.begun.near i v h w, sum (after (cell p l₀) k i k) (after (cell p l₀) k k v)))
-
-  -- a round is done
-  pub round_done : {k i : ℕ} {l : List ℤ} → p ≤ i → Rows p l₀ k i l → Round p l₀ (k + 1) l
-  round_done {k} {i} {l} h r = rw (add-one k) (record { begun = r.begun; turn = r.turn; size = r.size; up = up; all = λ u v q. r.done u v (omega arith) })
-    where
-      go : (h u : ℕ) → Dec (h ≡ suc k) → h ≤ suc k → u < p → pos 0 ≤ℤ after (cell p l₀) h u u
-      go x u (yes e) q w = subst (λ (y : ℕ). pos 0 ≤ℤ after (cell p l₀) y u u) (sym e) (r.fine u (omega arith))
-      go x u (no e) q w = r.up x u (omega (arith, e)) w
-
-      up : Diagonal (cell p l₀) p (suc k)
-      up x u = go x u (ℕ_discrete x (suc k))
-
-  -- all rounds are done
-  pub complete : {k : ℕ} {l : List ℤ} → p ≤ k → Round p l₀ k l → Complete p l₀ l
-  complete {k} {l} h r =
-      let e : k ≡ p = omega (arith, r.turn) in
-      record { up = subst (Diagonal (cell p l₀) p) e r.up; all = λ u v q w. r.all u v q w ∙ ap (λ (x : ℕ). after (cell p l₀) x u v) e }

@@ -1,23 +1,23 @@
 // `floyd_warshall`: the least totals between all pairs of a lent map. What it promises is in specs/Promise.antt.
 #![tactic(auto)]
 
-ghost use Rattle.std.specs.Prelude.{true, false, ◌≡◌, ℕ, ◌+◌, ◌*◌, ◌≤◌, ◌<◌, ◌^◌, pos, length, get_or};
-ghost use Rattle.whole.specs.Zed.{◌⊕◌, Within};
-ghost use Rattle.clean.specs.Fill.{filled};
+ghost use Rattle.std.specs.Prelude.{◌≡◌, ◌≤◌, ◌<◌, ◌^◌, pos, length, IfOk};
 ghost use Rattle.table.specs.Links.{links};
-ghost use Rattle.net.specs.Net.{net_of, width};
+ghost use Rattle.numbers.specs.Refusal.{number_of};
+ghost use Rattle.net.specs.Net.{int_net, width};
 ghost use Rattle.floyd_warshall.specs.Promise.{Promise};
-ghost use Rattle.floyd_warshall.specs.Rounds.{lesser, block, Block, reaching, any_below, Strided, Begun, Rounded};
+ghost use Rattle.floyd_warshall.specs.Rounds.{block, Block, reaching, any_below, Strided, Begun, Rounded};
 ghost use Rattle.floyd_warshall.specs.Filling.{Square, Started, Sound, Ranked, linked, poured};
 ghost use Rattle.floyd_warshall.specs.Filling.{Costs32Below, shown, MatrixShown, Solved, refusal_no};
 
-use table::Map;
+use net::{Ints, Lent};
+use numbers::Refusal;
 
 // What stands for "no walk" in the rounds: 2^50, far from every total.
-const FAR: i64 = 1125899906842624;
+const FAR: i64 = 1 << 50;
 
 // Entries from 2^49 on are no totals. A sum with the large number may lie below it, but never so low.
-const NO_TOTAL: i64 = 562949953421312;
+const NO_TOTAL: i64 = 1 << 49;
 
 // How many columns are lowered between two tests of the diagonal: so few that they are compiled without a loop.
 const BLOCK: usize = 16;
@@ -25,49 +25,29 @@ const BLOCK: usize = 16;
 // The same near the end of a row, and one by one where fewer are left.
 const SMALL: usize = 4;
 
-// What stands there, or the sum where that is smaller.
-fn shorter(old: i64, a: i64, b: i64) -> i64
-    requires { (Within (2 ^ 60) a) × (Within (2 ^ 60) b) }
-    ensures { result ≡ lesser old (a ⊕ b) }
-{
-    let s = a + b;
-    if s < old { s } else { old }
-}
-
 // Is one of n entries below zero, which stand first, first + step, ..?
 fn any_below(cells: &[i64], first: usize, step: usize, n: usize) -> bool
     requires { Strided first step n cells.now }
     ensures { result ≡ any_below cells.now first step n }
 {
-    let mut i: usize = 0;
-    while i < n {
-        if whole::lower(cells[first + i * step], 0) {
-            return true;
-        }
-        i += 1;
-    }
-    false
+    (0..n).any(|i| cells[first + i * step] < 0)
 }
 
 // Can a row change whose entry in column k is a? Not if there is no walk to k, unless row k has an entry below zero.
+#[tactic(auto, unfolding(crate::specs::Rounds::reaching))]
 fn reaches(falls: bool, a: i64) -> bool
     ensures { result ≡ reaching falls a }
 {
-    if falls {
-        return true;
-    }
-    a < FAR
+    falls || a < FAR
 }
 
-// The n entries from one place on, each lowered to the sum of a and the entry as far from the other, where that is smaller.
-fn lower_block(cells: &mut [i64], at: usize, by: usize, a: i64, n: usize)
-    requires { Block at by a n cells.old }
-    ensures { cells.new ≡ block at by a n cells.old }
+// The N entries from one place on, each lowered to the sum of a and the entry as far from the other, where that is smaller.
+fn lower_block<const N: usize>(cells: &mut [i64], at: usize, by: usize, a: i64)
+    requires { Block at by a N cells.old }
+    ensures { cells.new ≡ block at by a N cells.old }
 {
-    let mut x: usize = 0;
-    while x < n {
-        cells[at + x] = shorter(cells[at + x], a, cells[by + x]);
-        x += 1;
+    for x in 0..N {
+        cells[at + x] = cells[at + x].min(a + cells[by + x]);
     }
 }
 
@@ -77,59 +57,45 @@ fn lower_next(cells: &mut [i64], at: usize, by: usize, a: i64, left: usize) -> u
     ensures { (0 < result) × (result ≤ left) × (cells.new ≡ block at by a result cells.old) }
 {
     if left < SMALL {
-        lower_block(cells, at, by, a, 1);
-        return 1;
+        lower_block::<1>(cells, at, by, a);
+        1
+    } else if left < BLOCK {
+        lower_block::<SMALL>(cells, at, by, a);
+        SMALL
+    } else {
+        lower_block::<BLOCK>(cells, at, by, a);
+        BLOCK
     }
-    if left < BLOCK {
-        lower_block(cells, at, by, a, SMALL);
-        return SMALL;
-    }
-    lower_block(cells, at, by, a, BLOCK);
-    BLOCK
 }
 
 // The rounds. The columns go by blocks, and a test follows each: the first diagonal entry below zero ends all three loops. No sum overflows
 // until then, nor in the rest of that block, which is made of entries from before the round.
+#[tactic(auto, using(matrix::proofs::Matrix::place_in))]
 fn rounds(cells: &mut [i64], p: usize) -> bool
     requires { Begun p cells.old }
     ensures { Rounded p cells.old cells.new result }
 {
-    let mut below = false;
-    let mut k: usize = 0;
-    'rounds: while k < p {
+    for k in 0..p {
         let through = k * p;
         let falls = any_below(cells, through, 1, p);
-        let mut i: usize = 0;
-        'rows: while i < p {
+        for i in 0..p {
             let row = i * p;
             let a = cells[row + k];
             if reaches(falls, a) {
-                let mut j: usize = 0;
-                'columns: while j < p {
+                let mut j = 0;
+
+                // No counting loop: each block tells how many columns it was.
+                while j < p {
                     j += lower_next(cells, row + j, through + j, a, p - j);
-                    if whole::lower(cells[row + i], 0) {
-                        below = true;
-                        break 'rounds;
+                    let diagonal = cells[row + i];
+                    if diagonal < 0 {
+                        return true;
                     }
                 }
             }
-            i += 1;
         }
-        k += 1;
     }
-    below
-}
-
-// The large number 2^50 in the first n entries.
-fn fill_far(cells: &mut [i64], n: usize)
-    requires { n ≤ length cells.old }
-    ensures { cells.new ≡ filled n (pos (2 ^ 50)) cells.old }
-{
-    let mut i: usize = 0;
-    while i < n {
-        cells[i] = FAR;
-        i += 1;
-    }
+    false
 }
 
 // No arcs yet: the large number for each pair, but 0 on the diagonal.
@@ -137,20 +103,10 @@ fn start(cells: &mut [i64], p: usize)
     requires { Square p cells.old }
     ensures { Started p cells.new }
 {
-    fill_far(cells, p * p);
-    let mut i: usize = 0;
-    while i < p {
+    clean::fill(cells, p * p, FAR);
+    for i in 0..p {
         cells[i * p + i] = 0;
-        i += 1;
     }
-}
-
-// What stands there, or the cost where that is smaller.
-fn cheaper(old: i64, cost: i32) -> i64
-    ensures { result ≡ lesser old cost }
-{
-    let c = cost as i64;
-    if c < old { c } else { old }
 }
 
 // The arcs of one link between two rows.
@@ -158,46 +114,32 @@ fn put_link(directed: bool, p: usize, cells: &mut [i64], i: usize, j: usize, cos
     requires { Square p cells.old × (i < p) × (j < p) }
     ensures { cells.new ≡ linked directed p cells.old i j cost }
 {
+    let cost = i64::from(cost);
     let x = i * p + j;
-    cells[x] = cheaper(cells[x], cost);
-    if directed {
-        return;
+    cells[x] = cells[x].min(cost);
+    if !directed {
+        let y = j * p + i;
+        cells[y] = cells[y].min(cost);
     }
-    let y = j * p + i;
-    cells[y] = cheaper(cells[y], cost);
 }
 
 // The arcs of every link.
-fn fill(
-    map: Map,
-    marks: &[u8],
-    from: &[u16],
-    to: &[u16],
-    costs: &[i32],
-    ranks: &[usize],
-    p: usize,
-    cells: &mut [i64],
-)
-    requires { Sound (net_of map.bound map.count map.directed marks.now from.now to.now costs.now)
-        × Ranked (net_of map.bound map.count map.directed marks.now from.now to.now costs.now) ranks.now
-        × (p ≡ width (net_of map.bound map.count map.directed marks.now from.now to.now costs.now))
-        × Square p cells.old }
-    ensures { Costs32Below costs.now map.count
-        × (cells.new ≡ poured map.directed p ranks.now
-        (links map.count from.now to.now costs.now) cells.old) }
+fn fill(net: Lent<Ints>, ranks: &[usize], p: usize, cells: &mut [i64])
+    requires { Sound (int_net net) × Ranked (int_net net) ranks.now × (p ≡ width (int_net net)) × Square p cells.old }
+    ensures { Costs32Below net.entry.costs.costs.now net.entry.map.count
+        × (cells.new ≡ poured net.entry.map.directed p ranks.now
+        (links net.entry.map.count net.entry.from.now net.entry.to.now net.entry.costs.costs.now) cells.old) }
 {
-    let directed = map.directed;
-    let n = map.count;
-    let mut e: usize = 0;
-    while e < n {
-        let a = from[e] as usize;
-        let b = to[e] as usize;
-        put_link(directed, p, cells, ranks[a], ranks[b], costs[e]);
-        e += 1;
+    for e in 0..net.map.count {
+        let a = usize::from(net.from[e]);
+        let b = usize::from(net.to[e]);
+        let cost = net.costs.costs[e];
+        put_link(net.map.directed, p, cells, ranks[a], ranks[b], cost);
     }
 }
 
 // An entry as it is shown: none where there is no walk.
+#[tactic(auto, unfolding(crate::specs::Filling::shown))]
 fn shown_of(z: i64) -> i64
     ensures { result ≡ shown z }
 {
@@ -208,102 +150,61 @@ fn shown_of(z: i64) -> i64
 fn show(cells: &mut [i64])
     ensures { MatrixShown cells.old cells.new }
 {
-    let mut x: usize = 0;
-    while x < cells.len() {
-        cells[x] = shown_of(cells[x]);
-        x += 1;
+    for cell in cells.iter_mut() {
+        *cell = shown_of(*cell);
     }
 }
 
 // The answer to a sound map, in a matrix of just the entries used: is there a closed walk below zero?
-fn solve(
-    map: Map,
-    marks: &[u8],
-    from: &[u16],
-    to: &[u16],
-    costs: &[i32],
-    ranks: &[usize],
-    p: usize,
-    cells: &mut [i64],
-) -> bool
-    requires { Sound (net_of map.bound map.count map.directed marks.now from.now to.now costs.now)
-        × Ranked (net_of map.bound map.count map.directed marks.now from.now to.now costs.now) ranks.now
-        × (p ≡ width (net_of map.bound map.count map.directed marks.now from.now to.now costs.now))
-        × Square p cells.old }
-    ensures { Solved
-        (net_of map.bound map.count map.directed marks.now from.now to.now costs.now) result
-        cells.new }
+fn solve(net: Lent<Ints>, ranks: &[usize], p: usize, cells: &mut [i64]) -> bool
+    requires { Sound (int_net net) × Ranked (int_net net) ranks.now × (p ≡ width (int_net net)) × Square p cells.old }
+    ensures { Solved (int_net net.entry) result cells.new }
 {
     start(cells, p);
-    fill(map, marks, from, to, costs, ranks, p, cells);
-    if any_below(cells, 0, p + 1, p) {
-        return true;
-    }
-    if rounds(cells, p) {
+    fill(net, ranks, p, cells);
+    if any_below(cells, 0, p + 1, p) || rounds(cells, p) {
         return true;
     }
     show(cells);
     false
 }
 
-// 1 where a limit is passed or a lent slice is too short, 2 where a link names an index that the map has not, else 0.
-fn refusal(
-    map: Map,
-    marks: &[u8],
-    from: &[u16],
-    to: &[u16],
-    costs: &[i32],
-    matrix: &[i64],
-    ranks: &[usize],
-) -> usize
-    ensures { result ≡ refusal_no
-        (net_of map.bound map.count map.directed marks.now from.now to.now costs.now)
-        matrix.now ranks.now }
+// How many nodes the map has, unless a limit is passed, a lent slice is too short, or a link names an index that the map has not.
+fn width_of(net: Lent<Ints>, matrix: &[i64], ranks: &[usize]) -> Result<usize, Refusal>
+    ensures number { number_of result ≡ refusal_no (int_net net.entry) matrix.now ranks.now }
+    ensures counted { IfOk result (λ p. p ≡ width (int_net net.entry)) }
 {
-    if !net::whole(map, marks, from, to, costs) {
-        return 1;
+    if !net.whole() || ranks.len() < net.map.bound {
+        return Err(Refusal::Limit);
     }
-    if ranks.len() < map.bound {
-        return 1;
-    }
-    let p = net::count_present(map.bound, marks);
+    let p = net::count_present(net.map.bound, net.marks);
     if matrix.len() < p * p {
-        return 1;
+        Err(Refusal::Limit)
+    } else if net.inside() {
+        Ok(p)
+    } else {
+        Err(Refusal::Index)
     }
-    if !net::inside(map, marks, from, to, costs) {
-        return 2;
-    }
-    0
 }
 
-// The least totals between all pairs of nodes. 1 where a lent slice is too short or a limit is passed,
-// 2 where a link names an index that the map has not, 7 where a closed walk totals below zero, else 0.
+// The least totals between all pairs of nodes. Limit where a lent slice is too short or a limit is passed, Index where a link names
+// an index that the map has not, Negative where a closed walk totals below zero.
 pub fn floyd_warshall(
-    map: Map,
-    marks: &[u8],
-    from: &[u16],
-    to: &[u16],
-    costs: &[i32],
+    net: Lent<Ints>,
     matrix: &mut [i64],
     ranks: &mut [usize],
-) -> usize
-    ensures { Promise
-        (net_of map.bound map.count map.directed marks.now from.now to.now costs.now)
-        matrix.old ranks.old matrix.new ranks.new result }
+) -> Result<(), Refusal>
+    ensures { Promise (int_net net.entry) matrix.old ranks.old matrix.new ranks.new (number_of result) }
 {
-    let refused = refusal(map, marks, from, to, costs, matrix, ranks);
-    if refused != 0 {
-        return refused;
-    }
-    let m = map.bound;
-    let p = net::count_present(m, marks);
+    let p = width_of(net, matrix, ranks)?;
+    let m = net.map.bound;
     let used = p * p;
-    net::set_ranks(m, marks, ranks);
-    let negative = solve(map, marks, from, to, costs, ranks, p, &mut matrix[..used]);
-    clean::clear_usize(ranks, m);
+    net::set_ranks(m, net.marks, ranks);
+    let negative = solve(net, ranks, p, &mut matrix[..used]);
+    clean::fill(ranks, m, 0);
     if negative {
-        clean::blank_i64(matrix, used);
-        return 7;
+        clean::fill(matrix, used, clean::NONE_I64);
+        return Err(Refusal::Negative);
     }
-    0
+    Ok(())
 }

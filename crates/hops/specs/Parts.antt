@@ -7,7 +7,10 @@ use Rattle.table.specs.Links.{ends}
 use Rattle.table.specs.Lent.{room_ends}
 use Rattle.net.specs.Net.{Net, nodes_of, width, inside_net, most_arcs_of}
 use Rattle.rows.specs.Rows.{Ready}
-use Rattle.hops.specs.Promise.{Buffers, Matrix, left, table}
+use Rattle.net.specs.declared.Lent.{Lent}
+use Rattle.hops.specs.declared.Table.{Table}
+use Rattle.hops.specs.declared.Scratch.{Scratch}
+use Rattle.hops.specs.Promise.{Buffers, buffers_in, Matrix, left, table}
 
 -- refusal 1, then 2, else 0
 unfoldable pub refusal_no : {C : Type 0} → Net C → Buffers → ℕ
@@ -32,6 +35,19 @@ pub record Ripe (m n : ℕ) (d : Bool) (marks xs ys : List ℕ) (b : Buffers) : 
   pub marked : m ≤ length marks
   pub inside : inside_net (net_ends m n d marks xs ys) ≡ true
   pub fits : Fits m (most_arcs_of (net_ends m n d marks xs ys)) (width (net_ends m n d marks xs ys)) b
+
+-- the same, of a lent map of any kind and the structs of the code
+abbrev pub RipeIn : {D : Type 0} → Lent D → Table → Scratch → Type 0
+RipeIn l t s = Ripe l.map.bound l.map.count l.map.directed l.marks.now l.from.now l.to.now (buffers_in t s)
+
+-- the same slices are lent
+abbrev pub SameTable : Table → Table → Type 0
+SameTable t u = (u.nodes.ghost_name ≡ t.nodes.ghost_name) × (u.matrix.ghost_name ≡ t.matrix.ghost_name)
+
+abbrev pub SameScratch : Scratch → Scratch → Type 0
+SameScratch s t =
+    (t.offsets.ghost_name ≡ s.offsets.ghost_name) × (t.heads.ghost_name ≡ s.heads.ghost_name)
+    × (t.labels.ghost_name ≡ s.labels.ghost_name) × (t.queue.ghost_name ≡ s.queue.ghost_name)
 
 -- a map solved: the answer, and the length and the rest of each scratch slice as before
 pub record Solved {C : Type 0} (g : Net C) (b e : Buffers) (p : ℕ) : Type 0 where

@@ -1,8 +1,8 @@
 -- The whole-number search keeps the laws of its rule, and its sums and keys are in range.
 -- Distances are not below zero, so none (-2^63) stands for no distance only. A key is a distance and a heuristic: for one index a smaller
 -- distance has no greater key. No cost is above `dear`. A distance came by fewer arcs than there are indices, so it is at most `far`
--- (pending, Bound); a heuristic lies within 2^42: so the sums fit 64 bits and the keys the range of the bag. Each turn gives an index its first
--- distance, or lowers one, or takes a pending index out: `to_do` falls, and bounds the number of takes.
+-- (pending, Bound); a heuristic lies within 2^42: so the sums fit 64 bits and the keys the range of the bag. Each turn gives an index its
+-- first distance, or lowers one, or takes a pending index out: `to_do` falls, and bounds the number of takes.
 -- Assumes nothing.
 use mathlib.Core.Path.{◌≡◌, refl, sym, ap, subst}
 use mathlib.Core.Bool.{Bool, true, false}
@@ -124,7 +124,8 @@ module _ (h : List ℤ) {m source t : ℕ} (target : Option ℕ) {nb : Lists ℤ
   again : {s s' : ℕ → Cell ℤ} {n : ℕ} → kept s n → Within (upto m) s → Next setting (RowArc m nb) s s' → Within (upto m) s'
       → kept s' (suc n) × (left s' (suc n) < left s n)
   again {s} {s'} {n} k w x w' =
-      (record { inv = next_inv (key_of h) target source (RowArc m nb) k.inv x; bounded = bounded; few = omega (arith, falls, k.few) }, falls)
+      let inv = next_inv (key_of h) target source (RowArc m nb) k.inv x in
+      (record { inv = inv; bounded = bounded; few = omega (arith, falls, k.few) }, falls)
     where
       bounded : Bounded dear s'
       bounded = next_bounded (key_of h) target source (RowArc m nb) dear fit.cheap k.inv x k.bounded

@@ -1,8 +1,21 @@
 -- The lists that a search is lent: are they long enough, and what wiping leaves in them.
 -- Assumes nothing.
-use Rattle.std.specs.Prelude.{Bool, ◌&&◌, ℕ, leb, ℤ, pos, length}
+use Rattle.std.specs.Prelude.{◌≡◌, Bool, ◌&&◌, ℕ, leb, ℤ, pos, length}
 use Rattle.clean.specs.Fill.{filled}
+use Rattle.search.specs.declared.Memory as code
 use Rattle.turns.specs.Memory.{Memory, memory_of}
+
+-- what the lent lists hold
+abbrev pub memory_in : {K : Type 0} → code.Memory K → Memory K
+memory_in M = memory_of M.dist.now M.preds.now M.peaks.now M.words.now M.keys.now
+
+-- the same lists are lent
+abbrev pub SameMemory : {K : Type 0} → code.Memory K → code.Memory K → Type 0
+SameMemory M N =
+    (N.dist.ghost_name ≡ M.dist.ghost_name) × (N.preds.ghost_name ≡ M.preds.ghost_name)
+    × (N.peaks.ghost_name ≡ M.peaks.ghost_name)
+    × (N.words.ghost_name ≡ M.words.ghost_name)
+    × (N.keys.ghost_name ≡ M.keys.ghost_name)
 
 -- do the lists of the search have m entries each?
 unfoldable pub has_memory : {K : Type 0} → ℕ → Memory K → Bool

@@ -2,11 +2,14 @@
 // What it promises is said once, over the kind of search that the rule is (turns).
 #![tactic(auto)]
 
-ghost use Rattle.std.specs.Prelude.{◌≡◌, false, ◌⊎◌, ◌≤◌, ◌<◌, length, get_or, MatchOption};
+ghost use Rattle.std.specs.Prelude.{◌≡◌, false, ◌⊎◌, ◌-◌, ◌<◌, length, get_or, set, MatchOption};
 ghost use Rattle.std.proofs.Math.Option.{none};
-ghost use Rattle.clean.specs.None.{none_u32};
+ghost use Rattle.bag.specs.Bag.{Bag};
+ghost use Rattle.bag.specs.Content.{content_of, IsLeast};
 ghost use Rattle.clean.specs.Fill.{filled};
-ghost use Rattle.rows.specs.Rows.{lists_of};
+ghost use Rattle.clean.specs.None.{none_u32};
+ghost use Rattle.rows.specs.Rows.{lists_in};
+ghost use Rattle.numbers.specs.declared.Refusal.TheVariants.{BadCost as Bad};
 ghost use Rattle.rows.specs.RowArc.{RowArc};
 ghost use Rattle.turns.specs.Kind.{Kind, ordered};
 ghost use Rattle.turns.specs.Asks.{Asks, InRange, RowInRange};
@@ -18,9 +21,11 @@ ghost use Rattle.turns.proofs.Right.{Way, Right};
 ghost use Rattle.search.specs.Target.{target_in};
 ghost use Rattle.search.specs.Found.{number_of, takes_of};
 ghost use Rattle.search.specs.Runs.{Cheap, ToAll};
-ghost use Rattle.search.specs.Lists.{has_memory, wiped_with};
+ghost use Rattle.search.specs.Lists.{has_memory, wiped_with, memory_in, SameMemory};
 
 use bag::Key;
+use numbers::Refusal;
+use rows::Lists;
 
 mod floats;
 mod ints;
@@ -32,6 +37,15 @@ pub use ints::Guided;
 #[derive(Clone, Copy, Debug, PartialEq, Eq)]
 pub struct BadCost {
     pub takes: usize,
+}
+
+// As a refusal it is 6.
+impl From<BadCost> for Refusal {
+    ghost from_gives = { λ _ e. e ≡ Bad };
+
+    fn from(_bad: BadCost) -> Refusal {
+        Refusal::BadCost
+    }
 }
 
 // The rule of a search.
@@ -79,6 +93,72 @@ pub trait Rule: Copy {
     ghost right: { (r : Self) → Right (ordered Self.Key.kind (kind r)) (asks r) (way r) };
 }
 
+// What a search writes: distances and predecessors, and the bag's lists.
+#[derive(Drop)]
+pub struct Memory<'a, K> {
+    pub dist: &'a mut [K],
+    pub preds: &'a mut [u32],
+    pub peaks: &'a mut [usize],
+    pub words: &'a mut [usize],
+    pub keys: &'a mut [K],
+}
+
+impl<'a, K: Copy> Memory<'a, K> {
+    // Has each list m entries?
+    #[tactic(auto, unfolding(crate::specs::Lists::has_memory))]
+    pub fn long_enough(&self, m: usize) -> bool
+        ensures { result ≡ has_memory m (memory_in self.now) }
+    {
+        m <= self.dist.len()
+            && m <= self.preds.len()
+            && m <= self.peaks.len()
+            && m <= self.words.len()
+            && m <= self.keys.len()
+    }
+
+    // Zero in the first m entries of each list, of which it is told for the distances and the keys.
+    pub fn wipe(&mut self, m: usize, zero: K)
+        requires { EnoughMemory m (memory_in self.old) }
+        ensures wiped { memory_in self.new ≡ wiped_with zero m (memory_in self.old) }
+        ensures same { SameMemory self.old self.new }
+    {
+        clean::fill(self.dist, m, zero);
+        clean::fill(self.preds, m, 0);
+        clean::fill(self.peaks, m, 0);
+        clean::fill(self.words, m, 0);
+        clean::fill(self.keys, m, zero);
+    }
+
+    // Nothing has a distance and nothing is pending, in the first m entries.
+    fn clear(&mut self, m: usize, blank: K)
+        requires { EnoughMemory m (memory_in self.old) }
+        ensures dist { self.new.dist.now ≡ filled m blank self.old.dist.now }
+        ensures preds { self.new.preds.now ≡ filled m none_u32 self.old.preds.now }
+        ensures peaks { self.new.peaks.now ≡ filled m 0 self.old.peaks.now }
+        ensures words { self.new.words.now ≡ filled m 0 self.old.words.now }
+        ensures keys { self.new.keys.now ≡ self.old.keys.now }
+        ensures long { EnoughMemory m (memory_in self.new) }
+        ensures same { SameMemory self.old self.new }
+    {
+        clean::fill(self.dist, m, blank);
+        clean::fill(self.preds, m, clean::NONE_U32);
+        clean::fill(self.peaks, m, 0);
+        clean::fill(self.words, m, 0);
+    }
+}
+
+// Takes the least pair out of the bag, of which the keys stay, and gives its index.
+fn take_least<K: Key>(peaks: &mut [usize], words: &mut [usize], keys: &mut [K], n: usize) -> usize
+    requires bag { Bag K.kind peaks.old words.old keys.old n }
+    requires n_nonzero { 0 < n }
+    ensures least { IsLeast K.kind.lt (content_of words.old keys.old) (get_or keys.old result K.kind.none) result }
+    ensures bag_2 { Bag K.kind peaks.new words.new keys.old (n - 1) }
+    ensures keys_after { content_of words.new keys.old ≡ set (content_of words.old keys.old) result none }
+    ensures kept { keys.new ≡ keys.old }
+{
+    bag::take_least(peaks, words, keys, n)
+}
+
 // One arc to v, whose cost is good, looked at from u at the distance d. Gives how many pairs are pending then.
 fn look_arc<R: Rule>(
     rule: R,
@@ -87,142 +167,98 @@ fn look_arc<R: Rule>(
     v: usize,
     cost: R::Cost,
     size: usize,
-    dist: &mut [R::Key],
-    preds: &mut [u32],
-    peaks: &mut [usize],
-    words: &mut [usize],
-    keys: &mut [R::Key],
+    memory: &mut Memory<R::Key>,
 ) -> usize
-    requires safe { Safe (ordered R.Key.kind (R.kind rule)) u d v cost size
-        (memory_of dist.old preds.old peaks.old words.old keys.old) }
+    requires safe { Safe (ordered R.Key.kind (R.kind rule)) u d v cost size (memory_in memory.old) }
     requires in_range { InRange (ordered R.Key.kind (R.kind rule)) (R.asks rule) d v cost }
-    ensures { Looked (ordered R.Key.kind (R.kind rule)) u d v cost size
-        (memory_of dist.old preds.old peaks.old words.old keys.old)
-        (memory_of dist.new preds.new peaks.new words.new keys.new) result }
+    ensures looked { Looked (ordered R.Key.kind (R.kind rule)) u d v cost size
+        (memory_in memory.old) (memory_in memory.new) result }
+    ensures long { length memory.new.words.now ≡ length memory.old.words.now }
+    ensures same { SameMemory memory.old memory.new }
 {
     let next = rule.plus(d, cost);
-    if rule.is_better(next, dist[v]) {
-        dist[v] = next;
-        preds[v] = u as u32;
+    if rule.is_better(next, memory.dist[v]) {
+        memory.dist[v] = next;
+        memory.preds[v] = u as u32;
         let k = rule.key(next, v);
-        bag::push_or_lower(peaks, words, keys, size, v, k)
+        bag::push_or_lower(memory.peaks, memory.words, memory.keys, size, v, k)
     } else {
         size
     }
 }
 
 // Every arc of the row of u, which was taken from the bag. Gives how many pairs are pending then, or none where a cost was bad.
-fn look_row<R: Rule>(
+fn look_row<'a, 'b, R: Rule>(
     rule: R,
     m: usize,
     u: usize,
     pending: usize,
-    offsets: &[usize],
-    heads: &[u16],
-    weights: &[R::Cost],
-    dist: &mut [R::Key],
-    preds: &mut [u32],
-    peaks: &mut [usize],
-    words: &mut [usize],
-    keys: &mut [R::Key],
+    lists: &Lists<'a, R::Cost>,
+    memory: &mut Memory<'b, R::Key>,
 ) -> Option<usize>
-    requires opens { Opens (ordered R.Key.kind (R.kind rule)) m
-        (lists_of offsets.now heads.now weights.now) u pending
-        (memory_of dist.old preds.old peaks.old words.old keys.old) }
-    requires row_in_range { RowInRange (ordered R.Key.kind (R.kind rule)) (R.asks rule) m
-        (lists_of offsets.now heads.now weights.now) u
-        (get_or dist.old u (R.kind rule).blank) }
-    ensures { let kind = ordered R.Key.kind (R.kind rule) in
-        let arcs = lists_of offsets.now heads.now weights.now in
+    requires opens { Opens (ordered R.Key.kind (R.kind rule)) m (lists_in lists.now) u pending (memory_in memory.old) }
+    requires row_in_range { RowInRange (ordered R.Key.kind (R.kind rule)) (R.asks rule) m (lists_in lists.now) u
+        (get_or memory.old.dist.now u (R.kind rule).blank) }
+    ensures row { let kind = ordered R.Key.kind (R.kind rule) in
+        let arcs = lists_in lists.now in
         MatchOption result (BadArc kind m arcs u)
-        (RowDone kind m arcs u
-        (memory_of dist.old preds.old peaks.old words.old keys.old)
-        (memory_of dist.new preds.new peaks.new words.new keys.new)) }
+        (RowDone kind m arcs u (memory_in memory.old) (memory_in memory.new)) }
+    ensures same { SameMemory memory.old memory.new }
 {
-    let d = dist[u];
+    let d = memory.dist[u];
     let mut size = pending;
-    for i in offsets[u]..offsets[u + 1] {
-        let cost = weights[i];
+    for i in lists.offsets[u]..lists.offsets[u + 1] {
+        let cost = lists.weights[i];
         if rule.is_bad(cost) {
             return None;
         }
-        let v = usize::from(heads[i]);
-        size = look_arc(rule, u, d, v, cost, size, dist, preds, peaks, words, keys);
+        let v = usize::from(lists.heads[i]);
+        size = look_arc(rule, u, d, v, cost, size, memory);
     }
     Some(size)
 }
 
 // The source alone, pending. Gives how many pairs are pending then: one.
-fn start<R: Rule>(
-    rule: R,
-    source: usize,
-    dist: &mut [R::Key],
-    preds: &mut [u32],
-    peaks: &mut [usize],
-    words: &mut [usize],
-    keys: &mut [R::Key],
-) -> usize
+fn start<R: Rule>(rule: R, source: usize, memory: &mut Memory<R::Key>) -> usize
     requires in_range { (R.asks rule).key (R.kind rule).zero source }
-    requires fresh { Fresh (ordered R.Key.kind (R.kind rule)) (length words.old)
-        (memory_of dist.old preds.old peaks.old words.old keys.old) }
-    requires source_in_bounds { source < length words.old }
-    ensures { Started (ordered R.Key.kind (R.kind rule)) source
-        (memory_of dist.old preds.old peaks.old words.old keys.old)
-        (memory_of dist.new preds.new peaks.new words.new keys.new) result }
+    requires fresh { Fresh (ordered R.Key.kind (R.kind rule)) (length memory.old.words.now) (memory_in memory.old) }
+    requires source_in_bounds { source < length memory.old.words.now }
+    ensures started { Started (ordered R.Key.kind (R.kind rule)) source (memory_in memory.old) (memory_in memory.new) result }
+    ensures long { length memory.new.words.now ≡ length memory.old.words.now }
+    ensures same { SameMemory memory.old memory.new }
 {
     let zero = rule.zero();
-    dist[source] = zero;
-    preds[source] = clean::NONE_U32;
+    memory.dist[source] = zero;
+    memory.preds[source] = clean::NONE_U32;
     let k = rule.key(zero, source);
-    bag::push_or_lower(peaks, words, keys, 0, source, k)
+    bag::push_or_lower(memory.peaks, memory.words, memory.keys, 0, source, k)
 }
 
 // The search from a source, to a target if one is given that is below m.
-fn search<R: Rule>(
+fn search<'a, 'b, R: Rule>(
     rule: R,
     m: usize,
     source: usize,
     target: Option<usize>,
-    offsets: &[usize],
-    heads: &[u16],
-    weights: &[R::Cost],
-    dist: &mut [R::Key],
-    preds: &mut [u32],
-    peaks: &mut [usize],
-    words: &mut [usize],
-    keys: &mut [R::Key],
+    lists: &Lists<'a, R::Cost>,
+    memory: &mut Memory<'b, R::Key>,
 ) -> Result<usize, BadCost>
-    requires fit { (R.asks rule).fit m source target (lists_of offsets.now heads.now weights.now) }
-    requires fresh { Fresh (ordered R.Key.kind (R.kind rule)) m
-        (memory_of dist.old preds.old peaks.old words.old keys.old) }
-    ensures { Searched (ordered R.Key.kind (R.kind rule)) m (target_in m target) source
-        (lists_of offsets.now heads.now weights.now)
-        (memory_of dist.new preds.new peaks.new words.new keys.new)
-        (number_of result) (takes_of result) }
+    requires fit { (R.asks rule).fit m source target (lists_in lists.now) }
+    requires fresh { Fresh (ordered R.Key.kind (R.kind rule)) m (memory_in memory.old) }
+    ensures searched { Searched (ordered R.Key.kind (R.kind rule)) m (target_in m target) source
+        (lists_in lists.now) (memory_in memory.new) (number_of result) (takes_of result) }
+    ensures same { SameMemory memory.old memory.new }
 {
-    let mut size = start(rule, source, dist, preds, peaks, words, keys);
+    let mut size = start(rule, source, memory);
     let mut takes: usize = 0;
     // a worklist, until nothing is pending
     while 0 < size {
-        let u = bag::take_least(peaks, words, keys, size);
+        let u = take_least(memory.peaks, memory.words, memory.keys, size);
         takes += 1;
         if target == Some(u) {
             return Ok(takes);
         }
-        match look_row(
-            rule,
-            m,
-            u,
-            size - 1,
-            offsets,
-            heads,
-            weights,
-            dist,
-            preds,
-            peaks,
-            words,
-            keys,
-        ) {
+        match look_row(rule, m, u, size - 1, lists, memory) {
             Some(left) => size = left,
             None => return Err(BadCost { takes }),
         }
@@ -230,128 +266,78 @@ fn search<R: Rule>(
     Ok(takes)
 }
 
-// Nothing has a distance and nothing is pending, in the first m entries.
-fn clear<K: Copy>(
-    m: usize,
-    blank: K,
-    dist: &mut [K],
-    preds: &mut [u32],
-    peaks: &mut [usize],
-    words: &mut [usize],
-)
-    requires { (m ≤ length dist.old) × (m ≤ length preds.old) × (m ≤ length peaks.old) × (m ≤ length words.old) }
-    ensures { (dist.new ≡ filled m blank dist.old) × (preds.new ≡ filled m none_u32 preds.old)
-        × (peaks.new ≡ filled m 0 peaks.old) × (words.new ≡ filled m 0 words.old) }
-{
-    clean::fill(dist, m, blank);
-    clean::fill(preds, m, clean::NONE_U32);
-    clean::fill(peaks, m, 0);
-    clean::fill(words, m, 0);
-}
-
-// The search on the first m entries of each list, whatever they hold, to a target if one is given that is below m. Gives how many pairs
-// were taken and not dropped.
-pub fn run<R: Rule>(
+// The same over lists of just the entries used, which become the memory.
+fn search_part<'a, 'b, R: Rule>(
     rule: R,
     m: usize,
     source: usize,
     target: Option<usize>,
-    offsets: &[usize],
-    heads: &[u16],
-    weights: &[R::Cost],
-    dist: &mut [R::Key],
-    preds: &mut [u32],
-    peaks: &mut [usize],
-    words: &mut [usize],
-    keys: &mut [R::Key],
+    lists: &Lists<'a, R::Cost>,
+    dist: &'b mut [R::Key],
+    preds: &'b mut [u32],
+    peaks: &'b mut [usize],
+    words: &'b mut [usize],
+    keys: &'b mut [R::Key],
 ) -> Result<usize, BadCost>
-    requires fit { (R.asks rule).fit m source target (lists_of offsets.now heads.now weights.now) }
-    requires enough_memory { EnoughMemory m (memory_of dist.old preds.old peaks.old words.old keys.old) }
-    ensures { Ran (ordered R.Key.kind (R.kind rule)) m (target_in m target) source
-        (lists_of offsets.now heads.now weights.now)
-        (memory_of dist.old preds.old peaks.old words.old keys.old)
-        (memory_of dist.new preds.new peaks.new words.new keys.new)
-        (number_of result) (takes_of result) }
+    requires fit { (R.asks rule).fit m source target (lists_in lists.now) }
+    requires fresh { Fresh (ordered R.Key.kind (R.kind rule)) m (memory_of dist.old preds.old peaks.old words.old keys.old) }
+    ensures { Searched (ordered R.Key.kind (R.kind rule)) m (target_in m target) source
+        (lists_in lists.now) (memory_of dist.new preds.new peaks.new words.new keys.new) (number_of result) (takes_of result) }
 {
-    clear(m, rule.none(), dist, preds, peaks, words);
-    search(
+    let mut memory = Memory {
+        dist,
+        preds,
+        peaks,
+        words,
+        keys,
+    };
+    search(rule, m, source, target, lists, &mut memory)
+}
+
+// The search on the first m entries of each list, whatever they hold, to a target if one is given that is below m. Gives how many pairs
+// were taken and not dropped.
+pub fn run<'a, 'b, R: Rule>(
+    rule: R,
+    m: usize,
+    source: usize,
+    target: Option<usize>,
+    lists: &Lists<'a, R::Cost>,
+    memory: &mut Memory<'b, R::Key>,
+) -> Result<usize, BadCost>
+    requires fit { (R.asks rule).fit m source target (lists_in lists.now) }
+    requires enough_memory { EnoughMemory m (memory_in memory.old) }
+    ensures ran { Ran (ordered R.Key.kind (R.kind rule)) m (target_in m target) source
+        (lists_in lists.now) (memory_in memory.old) (memory_in memory.new) (number_of result) (takes_of result) }
+    ensures same { SameMemory memory.old memory.new }
+{
+    memory.clear(m, rule.none());
+    search_part(
         rule,
         m,
         source,
         target,
-        offsets,
-        heads,
-        weights,
-        &mut dist[..m],
-        &mut preds[..m],
-        &mut peaks[..m],
-        &mut words[..m],
-        &mut keys[..m],
+        lists,
+        &mut memory.dist[..m],
+        &mut memory.preds[..m],
+        &mut memory.peaks[..m],
+        &mut memory.words[..m],
+        &mut memory.keys[..m],
     )
 }
 
 // The least totals from a source to all indices below m: no heuristic, no target.
-pub fn to_all(
+pub fn to_all<'a, 'b>(
     m: usize,
     source: usize,
-    offsets: &[usize],
-    heads: &[u16],
-    weights: &[i64],
-    dist: &mut [i64],
-    preds: &mut [u32],
-    peaks: &mut [usize],
-    words: &mut [usize],
-    keys: &mut [i64],
+    lists: &Lists<'a, i64>,
+    memory: &mut Memory<'b, i64>,
 ) -> Result<usize, BadCost>
-    requires cheap { Cheap m (lists_of offsets.now heads.now weights.now) }
-    requires source_lt_m { (source < m) × EnoughMemory m (memory_of dist.old preds.old peaks.old words.old keys.old) }
-    ensures to_all { ToAll
-        (RowArc m (lists_of offsets.now heads.now weights.now)) m source dist.old
-        dist.new (number_of result) }
-    ensures kept_memory { KeptMemory m
-        (memory_of dist.old preds.old peaks.old words.old keys.old)
-        (memory_of dist.new preds.new peaks.new words.new keys.new) }
+    requires cheap { Cheap m (lists_in lists.now) }
+    requires source_lt_m { (source < m) × EnoughMemory m (memory_in memory.old) }
+    ensures to_all { ToAll (RowArc m (lists_in lists.now)) m source memory.old.dist.now memory.new.dist.now (number_of result) }
+    ensures kept_memory { KeptMemory m (memory_in memory.old) (memory_in memory.new) }
+    ensures same { SameMemory memory.old memory.new }
 {
     let rule = Guided { guess: &[0] };
-    run(
-        rule, m, source, None, offsets, heads, weights, dist, preds, peaks, words, keys,
-    )
-}
-
-// Do the lists of the search have m entries each?
-#[tactic(auto, unfolding(crate::specs::Lists::has_memory))]
-pub fn has_memory<K>(
-    m: usize,
-    dist: &[K],
-    preds: &[u32],
-    peaks: &[usize],
-    words: &[usize],
-    keys: &[K],
-) -> bool
-    ensures { result ≡ has_memory m
-        (memory_of dist.now preds.now peaks.now words.now keys.now) }
-{
-    m <= dist.len() && m <= preds.len() && m <= peaks.len() && m <= words.len() && m <= keys.len()
-}
-
-// Zero, which is x among the distances and keys, in the first m entries of each list of the search.
-pub fn wipe_memory<K: Copy>(
-    m: usize,
-    x: K,
-    dist: &mut [K],
-    preds: &mut [u32],
-    peaks: &mut [usize],
-    words: &mut [usize],
-    keys: &mut [K],
-)
-    requires { EnoughMemory m (memory_of dist.old preds.old peaks.old words.old keys.old) }
-    ensures { memory_of dist.new preds.new peaks.new words.new keys.new
-        ≡ wiped_with x m
-        (memory_of dist.old preds.old peaks.old words.old keys.old) }
-{
-    clean::fill(dist, m, x);
-    clean::fill(preds, m, 0);
-    clean::fill(peaks, m, 0);
-    clean::fill(words, m, 0);
-    clean::fill(keys, m, x);
+    run(rule, m, source, None, lists, memory)
 }

@@ -1,58 +1,42 @@
 -- `floyd_warshall::any_below` meets its contract.
 -- Assumes nothing.
-use mathlib.Core.Path.{◌≡◌, sym, ap, ◌∙◌}
-use Prim.Native.Nat.{◌+◌, ◌*◌, ◌≤◌}
-use native.Mathlib.Nat.{mul-le-mul_right}
+use mathlib.Core.Path.{◌≡◌, refl, sym, ◌∙◌, subst}
+use mathlib.Core.Bool.{Bool, true, false}
+use mathlib.Core.List.{List}
+use Prim.Native.Nat.{ℕ, ◌+◌, ◌*◌, ◌<◌}
 use native.Mathlib.Omega.{arith}
-use borrow.Author.Rules.{sfits_of}
-use lib.IntN.{pos}
-use lib.ListN.{get_or}
+use borrow.Author.Tests.{tests}
+use lib.IntN.{ℤ, pos}
+use lib.ListN.{length, get_or}
 use lib.Signed.{lt_z}
+use Rattle.std.specs.Bool.{MatchBool}
+use Rattle.std.specs.List.{range_with_len, HoldsAt, AllWithin}
+use Rattle.std.proofs.Common.{rules, zero-add}
+use Rattle.std.proofs.Math.Nat.{sub-zero}
+use Rattle.std.proofs.lemmas.Iterator.{YieldsList-from_range, cases_from_any}
+use Rattle.std.proofs.lemmas.List.FromFn.{length-range_with_len, get_or-range_with_len}
 use Rattle.floyd_warshall.specs.Rounds.{any_below}
-use Rattle.floyd_warshall.proofs.Bits.{read_below}
-use Rattle.floyd_warshall.proofs.Turns.{nothing_below, below_more, one_below}
+use Rattle.floyd_warshall.proofs.Turns.{none_is, one_below}
 use Rattle.floyd_warshall.proofs.any_below.Goals as goal
-use Rattle.floyd_warshall.proofs.any_below.Goals.{After-lower, In-loop-i}
 
--- a place that is looked at
-small : (w : In-loop-i) → w.args.first + w.loop-i.i * w.args.step ≤ 2098176
-small w =
-    let a : w.loop-i.i * w.args.step ≤ 1024 * w.args.step = mul-le-mul_right w.args.step (omega (arith, w.loop-i-test.true, w.requires.few)) in
-    omega (arith, w.requires.short, w.requires.early)
+-- the i-th test
+abbrev low : List ℤ → ℕ → ℕ → ℕ → Bool
+low l first step i = lt_z (get_or l (first + i * step) (pos 0)) (pos 0)
 
--- the test, of the number itself
-tested : (c : After-lower)
-    → c.lower.result ≡ lt_z (get_or c.args.cells.now
-    (c.args.first + c.loop-i.i * c.args.step) (pos 0)) (pos 0)
-tested c =
-    read_below (get_or c.args.cells.now (c.args.first + c.loop-i.i * c.args.step) (pos 0)) c.lower.result (sfits_of c.lower-arg-1.given) c.lower.ensures
+place : (n i : ℕ) → i < n → get_or (range_with_len 0 n) i 0 ≡ i
+place n i h = get_or-range_with_len 0 n i 0 h ∙ zero-add i
 
-pub loop-i-init : goal.loop-i-init
-loop-i-init c = (omega arith, nothing_below _ _ _)
-
-pub overflow_mul-i : goal.overflow_mul-i
-overflow_mul-i c = omega (arith, small c)
-
-pub overflow_add-first : goal.overflow_add-first
-overflow_add-first c = omega (arith, small c)
-
-pub offset_bounds-cells-first : goal.offset_bounds-cells-first
-offset_bounds-cells-first c = omega (arith, small c)
-
-pub bounds-cells-first : goal.bounds-cells-first
-bounds-cells-first c = c.requires.within c.loop-i.i c.loop-i-test.true
-
-pub returns-then-lower : goal.returns-then-lower
-returns-then-lower c = sym (one_below _ _ _ _ c.loop-i.i c.loop-i-test.true (sym (tested (goal.at.returns-then-lower c).After-lower) ∙ c.if-lower.true))
-
-pub overflow_add-i : goal.overflow_add-i
-overflow_add-i c = omega (arith, c.loop-i-test.true, c.requires.few)
-
-pub loop-i-preserved : goal.loop-i-preserved
-loop-i-preserved c = (omega (arith, c.loop-i-test.true), below_more _ _ _ _ c.loop-i.invariant.1 (sym (tested (goal.at.loop-i-preserved c).After-lower) ∙ c.if-lower.false))
+settled : (l : List ℤ) (first step n : ℕ) (r : Bool)
+    → MatchBool r ((k : ℕ) × (k < length (range_with_len 0 n)) × HoldsAt (λ i. low l first step i ≡ true) (range_with_len 0 n) k)
+    (AllWithin (λ i. low l first step i ≡ false) (range_with_len 0 n) 0 (length (range_with_len 0 n))) → r ≡ any_below l first step n
+settled l first step n true m =
+    let h : m.0 < n = omega (arith, m.1, length-range_with_len 0 n) in
+    sym (one_below l first step n m.0 h (subst (λ i. low l first step i ≡ true) (place n m.0 h) (m.2 0)))
+settled l first step n false m =
+    sym (none_is l first step n (λ i h. subst (λ i. low l first step i ≡ false) (place n i h) (m i 0 (omega arith) (omega (arith, length-range_with_len 0 n)))))
 
 pub returns : goal.returns
 returns c =
-    let l = c.loop-i in
-    let e : l.i ≡ c.args.n = omega (arith, l.invariant.0, c.loop-i-test.false) in
-    sym (ap (any_below c.args.cells.now c.args.first c.args.step) (sym e) ∙ l.invariant.1)
+    let m = cases_from_any _ _ c.any.result (λ i. low c.args.cells.now c.args.first c.args.step i ≡ true) (λ i. low c.args.cells.now c.args.first c.args.step i ≡ false) c.any.ensures.ran
+    (YieldsList-from_range 0 c.args.n c.args.n refl (sub-zero c.args.n)) (λ x q k. search (rules, tests)) (λ x q k. search (rules, tests)) in
+    settled _ _ _ _ _ m

@@ -1,13 +1,9 @@
 -- `floyd_warshall::lower_block` meets its contract. The invariant: the entries passed are lowered (`Lowering` in proofs/Stores.antt).
 -- The two places of a turn lie inside, since the block lies inside and its list keeps its length. Their sum fits, since what a block asks for bounds both numbers. So
--- one more store makes one more entry of the block, and after n of them it is the block that the contract names.
+-- one more store makes one more entry of the block, and after N of them it is the block that the contract names.
 -- Assumes nothing.
-use Prim.Native.Nat.{◌-◌}
 use Rattle.floyd_warshall.proofs.Stores.{Lowering}
 use Rattle.floyd_warshall.proofs.lower_block.Given as goal
 
 abbrev pub invariant-loop-x : goal.invariant-loop-x
-invariant-loop-x l = Lowering l.at l.by l.a l.n l.initial.cells l.x l.cells
-
-abbrev pub decreases-loop-x : goal.decreases-loop-x
-decreases-loop-x l = l.n - l.x
+invariant-loop-x g l = Lowering l.at l.by l.a l.x-end l.initial.cells l.x l.cells

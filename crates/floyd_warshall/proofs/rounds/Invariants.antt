@@ -4,30 +4,21 @@
 -- round to the next. No diagonal entry was below zero so far, hence every entry is small and no sum overflows (Triangle). The loops end with all rounds done, or
 -- with a diagonal entry that a round made negative.
 -- Assumes nothing.
-use mathlib.Core.Path.{◌≡◌}
-use mathlib.Core.Bool.{false}
-use mathlib.Core.List.{List}
 use Prim.Native.Nat.{◌-◌}
-use lib.IntN.{ℤ, pos}
+use lib.IntN.{pos}
 use lib.Signed.{◌≤ℤ◌}
 use Rattle.floyd_warshall.specs.Rounds.{cell}
 use Rattle.floyd_warshall.proofs.Turns.{Round, Rows, Turn}
 use Rattle.floyd_warshall.proofs.rounds.Given as goal
 
-abbrev pub invariant-columns : goal.invariant-columns
-invariant-columns l = (l.below ≡ l.initial.below) × ((l₀ : List ℤ) → Rows l.p l₀ l.k l.i l.initial.cells → Turn l.p l₀ l.k l.i l.j l.cells × (pos 0 ≤ℤ cell l.p l.cells l.i l.i))
+abbrev pub invariant-loop-j : goal.invariant-loop-j
+invariant-loop-j l = Turn l.p l.fn.cells l.k l.i l.j l.cells × (pos 0 ≤ℤ cell l.p l.cells l.i l.i)
 
-abbrev pub decreases-columns : goal.decreases-columns
-decreases-columns l = l.p - l.j
+abbrev pub decreases-loop-j : goal.decreases-loop-j
+decreases-loop-j l = l.p - l.j
 
-abbrev pub invariant-rows : goal.invariant-rows
-invariant-rows l = (l.below ≡ false) × ((l₀ : List ℤ) → Round l.p l₀ l.k l.initial.cells → Rows l.p l₀ l.k l.i l.cells)
+abbrev pub invariant-loop-i : goal.invariant-loop-i
+invariant-loop-i l = Rows l.p l.fn.cells l.k l.i l.cells
 
-abbrev pub decreases-rows : goal.decreases-rows
-decreases-rows l = l.p - l.i
-
-abbrev pub invariant-rounds : goal.invariant-rounds
-invariant-rounds l = (l.below ≡ false) × Round l.p l.initial.cells l.k l.cells
-
-abbrev pub decreases-rounds : goal.decreases-rounds
-decreases-rounds l = l.p - l.k
+abbrev pub invariant-loop-k : goal.invariant-loop-k
+invariant-loop-k l = Round l.p l.fn.cells l.k l.cells

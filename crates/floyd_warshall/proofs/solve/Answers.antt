@@ -2,9 +2,9 @@
 -- Assumes nothing.
 use mathlib.Core.List.{List}
 use lib.IntN.{ℤ}
-use Rattle.floyd_warshall.proofs.Answers.{Prepared, ask_diagonal, solved_first, ask_rounds, solved_rounds, solved_all}
+use Rattle.floyd_warshall.proofs.Answers.{Prepared, solved_first, ask_rounds, solved_rounds, solved_all}
 use Rattle.floyd_warshall.proofs.solve.Goals as goal
-use Rattle.floyd_warshall.proofs.solve.Goals.{After-fill, Start}
+use Rattle.floyd_warshall.proofs.solve.Goals.{After-fill, Start, then-any_below-via-then-any_below, then-any_below-via-else-any_below+then-rounds}
 
 -- after the links are poured
 module _ (f : After-fill) where
@@ -14,29 +14,23 @@ module _ (f : After-fill) where
   abbrev cells : List ℤ
   cells = f.fill.new.cells
 
-  prepared : Prepared start.args.map.bound start.args.map.count start.args.map.directed start.args.marks.now start.args.from.now start.args.to.now
-      start.args.costs.now start.args.ranks.now start.requires.0 start.requires.1 f.fill.ensures.0 start.args.p cells
+  prepared : Prepared _ _ _ _ _ _ start.args.net.costs.costs.now start.args.ranks.now start.requires.0 start.requires.1 f.fill.ensures.0 start.args.p cells
   prepared = record { first = f.start.new.cells; started = f.start.ensures; is = f.fill.ensures.1 }
-
-pub any_below-requires : goal.any_below-requires
-any_below-requires c =
-    let s = start (goal.at.any_below-requires c).After-fill in ask_diagonal _ _ _ _ _ _ _ _ s.requires.0 s.requires.1 c.fill.ensures.0 s.requires.2 (prepared (goal.at.any_below-requires c).After-fill)
-
-pub returns-then-any_below : goal.returns-then-any_below
-returns-then-any_below c =
-    let s = start (goal.at.returns-then-any_below c).After-fill in
-    solved_first _ _ _ _ _ _ _ _ s.requires.0 s.requires.1 c.fill.ensures.0 s.requires.2 (prepared (goal.at.returns-then-any_below c).After-fill) c.any_below.ensures c.if-any_below.true
 
 pub rounds-requires : goal.rounds-requires
 rounds-requires c =
     let s = start (goal.at.rounds-requires c).After-fill in
     ask_rounds _ _ _ _ _ _ _ _ s.requires.0 s.requires.1 c.fill.ensures.0 s.requires.2 (prepared (goal.at.rounds-requires c).After-fill) c.any_below.ensures c.if-any_below.false
 
-pub returns-then-rounds : goal.returns-then-rounds
-returns-then-rounds c =
-    let s = start (goal.at.returns-then-rounds c).After-fill in
-    solved_rounds _ _ _ _ _ _ _ _ s.requires.0 s.requires.1 c.fill.ensures.0 s.requires.2 (prepared (goal.at.returns-then-rounds c).After-fill) c.rounds.result
-    c.rounds.new.cells c.rounds.ensures c.if-rounds.true
+pub returns-then-any_below : goal.returns-then-any_below
+returns-then-any_below c =
+    let a = (goal.at.returns-then-any_below c).After-fill in
+    let s = start a in
+    elim c.then-any_below.branch [
+      | then-any_below-via-then-any_below v ↦ solved_first _ _ _ _ _ _ _ _ s.requires.0 s.requires.1 c.fill.ensures.0 s.requires.2 (prepared a) c.any_below.ensures v.if-any_below.true
+      | then-any_below-via-else-any_below+then-rounds v ↦
+          solved_rounds _ _ _ _ _ _ _ _ s.requires.0 s.requires.1 c.fill.ensures.0 s.requires.2 (prepared a) v.rounds.result v.rounds.new.cells v.rounds.ensures v.if-rounds.true
+    ]
 
 pub returns : goal.returns
 returns c =

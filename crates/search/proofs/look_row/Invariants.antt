@@ -2,13 +2,13 @@
 -- The loop's invariant is the record `Row` of turns: the arcs before place i are looked at, and what the lists say is what the pending bag makes of them, the
 -- distance of u being the one read first. A bad cost stops the row; any other arc is one look more; at the end of the row the turn is done.
 -- Assumes nothing.
-use Rattle.rows.specs.Rows.{lists_of}
+use Rattle.rows.specs.Rows.{lists_in}
 use Rattle.turns.specs.Kind.{ordered}
 use Rattle.turns.specs.Row.{Row}
-use Rattle.turns.specs.Memory.{memory_of}
+use Rattle.search.specs.Lists.{memory_in, SameMemory}
 use Rattle.search.proofs.look_row.Given as goal
 
 abbrev pub invariant-loop-i : goal.invariant-loop-i
 invariant-loop-i g l =
-    Row (ordered g.R.Key.Key.kind (g.R.Rule.kind l.rule)) l.m (lists_of l.offsets l.heads l.weights) l.u l.d l.i l.size
-    (memory_of l.initial.dist l.initial.preds l.initial.peaks l.initial.words l.initial.keys) (memory_of l.dist l.preds l.peaks l.words l.keys)
+    Row (ordered g.R.Key.Key.kind (g.R.Rule.kind l.rule)) l.m (lists_in l.lists) l.u l.d l.i l.size (memory_in l.initial.memory) (memory_in l.memory)
+    × SameMemory l.initial.memory l.memory

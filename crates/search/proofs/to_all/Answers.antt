@@ -7,4 +7,4 @@ pub run-requires : goal.run-requires
 run-requires c = record { fit = fits c.requires.cheap c.requires.source_lt_m.0; enough_memory = c.requires.source_lt_m.1 }
 
 pub returns-clause-to_all : goal.returns-clause-to_all
-returns-clause-to_all c = reached c.run.ensures c.requires.source_lt_m.1.dist
+returns-clause-to_all c = reached c.run.ensures.ran c.requires.source_lt_m.1.dist
