@@ -20,27 +20,15 @@ pub struct Found {
     pub length: usize,
 }
 
-// Is v's heuristic within -2^42 ..= 2^42?
-fn fair(guess: &[i64], v: usize) -> bool
-    requires { v < length guess.now }
-    ensures { result ≡ is_fair (get_or guess.now v (pos 0)) }
-{
-    let h = guess[v];
-    if h < -4398046511104 {
-        return false;
-    }
-    h <= 4398046511104
-}
+// How far from 0 a heuristic may be: 2^42.
+const MOST: i64 = 4398046511104;
 
-// Has the map no index i, or is its heuristic?
-fn fair_at(m: usize, marks: &[u8], guess: &[i64], i: usize) -> bool
-    requires { (m ≤ length marks.now) × (m ≤ length guess.now) × (i < m) }
-    ensures { result ≡ fair_at (present m marks.now) guess.now i }
+// Is a heuristic within -2^42 ..= 2^42?
+#[tactic(auto, unfolding(crate::specs::Promise::is_fair))]
+fn fair(h: i64) -> bool
+    ensures { result ≡ is_fair h }
 {
-    if !net::has_index(m, marks, i) {
-        return true;
-    }
-    fair(guess, i)
+    (-MOST..=MOST).contains(&h)
 }
 
 // Is the heuristic of each index that the map has?
@@ -48,17 +36,14 @@ fn all_fair(m: usize, marks: &[u8], guess: &[i64]) -> bool
     requires { (m ≤ length marks.now) × (m ≤ length guess.now) }
     ensures { result ≡ fair_below (present m marks.now) guess.now m }
 {
-    let mut i: usize = 0;
-    while i < m {
-        if !fair_at(m, marks, guess, i) {
-            return false;
-        }
-        i += 1;
-    }
-    true
+    marks[..m]
+        .iter()
+        .zip(&guess[..m])
+        .all(|(mark, h)| *mark == 0 || fair(*h))
 }
 
 // Is each slice as long as the part used?
+#[tactic(auto, unfolding(crate::specs::Promise::long_enough))]
 fn long_enough(
     m: usize,
     a: usize,
@@ -77,20 +62,15 @@ fn long_enough(
         preds.now peaks.now words.now keys.now in
         result ≡ long_enough m a guess.now lent }
 {
-    if guess.len() < m {
-        return false;
-    }
-    if path.len() < m {
-        return false;
-    }
-    if !rows::has_lists(m, a, offsets, heads, weights) {
-        return false;
-    }
-    search::ints::has_memory(m, dist, preds, peaks, words, keys)
+    m <= guess.len()
+        && m <= path.len()
+        && rows::has_lists(m, a, offsets, heads, weights)
+        && search::ints::has_memory(m, dist, preds, peaks, words, keys)
 }
 
 // 2 where a link names an index that the map has not, 3 where the source is one,
 // 4 where the target is, 5 where a heuristic is too far from 0, else 0.
+#[tactic(auto, unfolding(crate::specs::Parts::question_no))]
 fn question(
     map: Map,
     marks: &[u8],
@@ -108,21 +88,20 @@ fn question(
         (question_of source target guess.now) }
 {
     if !net::inside(map, marks, from, to, costs) {
-        return 2;
+        2
+    } else if !net::has_index(map.bound, marks, source) {
+        3
+    } else if !net::has_index(map.bound, marks, target) {
+        4
+    } else if !all_fair(map.bound, marks, guess) {
+        5
+    } else {
+        0
     }
-    if !net::has_index(map.bound, marks, source) {
-        return 3;
-    }
-    if !net::has_index(map.bound, marks, target) {
-        return 4;
-    }
-    if !all_fair(map.bound, marks, guess) {
-        return 5;
-    }
-    0
 }
 
 // 1 where a limit is passed or a lent slice is too short, then 2 to 5, else 0.
+#[tactic(auto, unfolding(crate::specs::Parts::refusal_no, crate::specs::Parts::question_no))]
 fn refusal(
     map: Map,
     marks: &[u8],
@@ -148,16 +127,26 @@ fn refusal(
         preds.now peaks.now words.now keys.now in
         result ≡ refusal_no net (question_of source target guess.now) lent }
 {
-    if !net::whole(map, marks, from, to, costs) {
-        return 1;
+    if !net::whole(map, marks, from, to, costs)
+        || !long_enough(
+            map.bound,
+            net::most_arcs(map.directed, map.count),
+            guess,
+            path,
+            offsets,
+            heads,
+            weights,
+            dist,
+            preds,
+            peaks,
+            words,
+            keys,
+        )
+    {
+        1
+    } else {
+        question(map, marks, from, to, costs, source, target, guess)
     }
-    let a = net::most_arcs(map.directed, map.count);
-    if !long_enough(
-        map.bound, a, guess, path, offsets, heads, weights, dist, preds, peaks, words, keys,
-    ) {
-        return 1;
-    }
-    question(map, marks, from, to, costs, source, target, guess)
 }
 
 // The neighbour list is made, and the search run on it. 0, or 6 where a cost below zero was met.
@@ -198,6 +187,7 @@ fn seek(
 
 // Writes the path from the source to v at the front of `path`:
 // goes back by at most `left` arcs, and writes on return. Gives how many indices it has.
+// It calls itself: a loop from v on meets the indices the other way round, and would have to turn the path about.
 fn write_path(preds: &[u32], source: usize, v: usize, left: usize, path: &mut [u32]) -> usize
     requires preds_len_bound { length preds.now ≤ 1024 }
     requires goes_back { GoesBack preds.now source left v }
@@ -222,14 +212,6 @@ fn has_distance(dist: &[i64], v: usize) -> bool
     clean::NONE_I64 < dist[v]
 }
 
-// v's distance.
-fn distance(dist: &[i64], v: usize) -> i64
-    requires { v < length dist.now }
-    ensures { result ≡ get_or dist.now v none_i64 }
-{
-    dist[v]
-}
-
 // The answer after a search that ended with a number: none in the path's slice, and the path if the target has a distance.
 fn answer(
     number: usize,
@@ -246,25 +228,24 @@ fn answer(
 {
     clean::blank_u32(path, m);
     if number != 0 {
-        return Found {
-            number: number,
+        Found {
+            number,
             cost: clean::NONE_I64,
             length: 0,
-        };
-    }
-    if !has_distance(dist, target) {
-        return Found {
+        }
+    } else if !has_distance(dist, target) {
+        Found {
             number: 0,
             cost: clean::NONE_I64,
             length: 0,
-        };
-    }
-    let n = write_path(&preds[..m], source, target, m - 1, path);
-    let d = distance(dist, target);
-    Found {
-        number: 0,
-        cost: d,
-        length: n,
+        }
+    } else {
+        let length = write_path(&preds[..m], source, target, m - 1, path);
+        Found {
+            number: 0,
+            cost: dist[target],
+            length,
+        }
     }
 }
 
