@@ -103,8 +103,8 @@ module _ {g : Net ℤ} {s : ℕ} {b : Buffers} (ok : Passed g s b) where
       cleared = w ∙ ap (λ (n : ℕ). wiped_all g.bound n b₁.scratch) is ∙ wiped_same kept
 
       -- what the promise says
-      pub answer : Promise g s b (record { dist = d; scratch = r }) number
-      answer = go v.answer
+      pub answer : {k : ℕ} → number ≡ k → Promise g s b (record { dist = d; scratch = r }) k
+      answer q = subst (Promise g s b (record { dist = d; scratch = r })) q (go v.answer)
         where
           go : ToAll (ArcOf g) g.bound s b.dist b₁.dist number → Promise g s b (record { dist = d; scratch = r }) number
           go (all e n x) =

@@ -3,9 +3,8 @@
 -- the promise says. The search ran over the neighbour list, whose arcs are the open arcs of the map, with the cutoff as a number, which cuts the same totals: so its
 -- end is the end of the pending bag that the promise names. A number that is not 0 is 6, since a search ends in no other.
 -- Assumes nothing.
-use mathlib.Core.Path.{◌≡◌, sym, ap, ◌∙◌, subst}
+use mathlib.Core.Path.{◌≡◌, refl, sym, ap, ◌∙◌, subst}
 use mathlib.Core.List.{List}
-use mathlib.Core.Logic.{◌⊎◌, inl, inr}
 use mathlib.Core.Option.{none}
 use Prim.Native.Nat.{ℕ, ◌<◌}
 use lib.Seq.{get_or-take}
@@ -29,11 +28,11 @@ use Rattle.rows.specs.Scratch.{wiped}
 use Rattle.rows.proofs.Kept.{kept_same, lists_kept, wiped_rows, lists_for}
 use Rattle.rows.proofs.Maps.{open_room, open_are, open_sound, open_kept}
 use Rattle.pending.specs.Floats.{search64}
-use Rattle.pending.proofs.One.{number_is, ends_map}
+use Rattle.pending.proofs.One.{ends_map}
 use Rattle.turns.specs.Memory.{Memory, memory_of}
 use Rattle.turns.specs.Firsts.{EnoughMemory}
 use Rattle.turns.proofs.Firsts.{memory_enough}
-use Rattle.dijkstra_path.specs.Promise.{Buffers, buffers_of, left, EndsIn, Promise}
+use Rattle.dijkstra_path.specs.Promise.{Buffers, buffers_of, left, EndsIn, Answers, Promise}
 use Rattle.dijkstra_path.specs.Parts.{Ran}
 use Rattle.dijkstra_path.proofs.Literal.{literal_exactly}
 use Rattle.dijkstra_path.proofs.Refusals.{Passed}
@@ -93,23 +92,22 @@ module _ {g : Net FloatCost} {s : ℕ} {b : Buffers} (ok : Passed g s b) where
             λ j. record { rows = rows j; memory = memory_of x p (eq j) (ei j) (ey j) }
 
         -- done
-        pub answer_done : number ≡ 0 → Promise g s k b (buffers_of M.dist M.preds o h w q i y) number
-        answer_done e =
+        pub answer_done : number ≡ 0 → {x p : List ℕ} → x ≡ M.dist → p ≡ M.preds → Promise g s k b (buffers_of x p o h w q i y) 0
+        answer_done e {x} {p} ex ep =
             let zero : v.ran.searched.end.number ≡ 0 = sym v.ran.searched.is ∙ e in
-            record {
+            let shown : Answers m v.ran.searched.end b (buffers_of M.dist M.preds o h w q i y) = record { dist = dists e; preds = names e } in
+            rw (ex, ep)
+            (record {
               follows = numbers.past ok.long (numbers.past ok.inside (numbers.past ok.source (numbers.past (λ y. split y.1 y.2 ends_in zero)
-                  (numbers.here tt (e, (v.ran.searched.end, ends_in, zero, record { dist = dists e; preds = names e }, all_wiped M.dist M.preds))))));
-            }
+                  (numbers.here tt (refl, (v.ran.searched.end, ends_in, zero, shown, all_wiped M.dist M.preds))))));
+            })
 
         -- a bad cost
-        pub answer_bad : (number ≡ 0 → ⊥) → {x p : List ℕ} → x ≡ filled m none_f64 M.dist → p ≡ filled m none_u32 M.preds → Promise g s k b (buffers_of x p o h w q i y) number
-        answer_bad f {x} {p} ex ep = go (number_is v.ran.searched.ends)
-          where
-            go : (v.ran.searched.end.number ≡ 0) ⊎ (v.ran.searched.end.number ≡ 6) → Promise g s k b (buffers_of x p o h w q i y) number
-            go (inl z) = absurd (f (v.ran.searched.is ∙ z))
-            go (inr z) =
-                let blank = all_wiped x p ∙ (λ j. left g b ((ex ∙ kept_same none_f64 v.ran.kept.dist) j) ((ep ∙ kept_same none_u32 v.ran.kept.preds) j)) in
-                record {
-                  follows = numbers.past ok.long (numbers.past ok.inside (numbers.past ok.source
-                      (numbers.here (v.ran.searched.end, ends_in, z) (v.ran.searched.is ∙ z, blank))));
-                }
+        pub answer_bad : number ≡ 6 → {x p : List ℕ} → x ≡ filled m none_f64 M.dist → p ≡ filled m none_u32 M.preds → Promise g s k b (buffers_of x p o h w q i y) 6
+        answer_bad e {x} {p} ex ep =
+            let z : v.ran.searched.end.number ≡ 6 = sym v.ran.searched.is ∙ e in
+            let blank = all_wiped x p ∙ (λ j. left g b ((ex ∙ kept_same none_f64 v.ran.kept.dist) j) ((ep ∙ kept_same none_u32 v.ran.kept.preds) j)) in
+            record {
+              follows = numbers.past ok.long (numbers.past ok.inside (numbers.past ok.source
+                  (numbers.here (v.ran.searched.end, ends_in, z) (refl, blank))));
+            }

@@ -15,6 +15,8 @@ use Rattle.pending.specs.Literal.{start, Ends}
 use Rattle.pending.specs.Floats.{search64}
 use Rattle.turns.specs.Memory.{Memory, memory_of}
 use Rattle.search.specs.Lists.{has_memory}
+use Rattle.rows.specs.declared.Lists as code
+use Rattle.search.specs.declared.Memory as memory_code
 
 -- the lent buffers: the neighbour list, and what the search writes, with the answers in it: distances, as patterns, and predecessors
 pub record Buffers : Type 0 where
@@ -24,6 +26,10 @@ pub record Buffers : Type 0 where
 -- these from their slices
 abbrev pub buffers_of : List ℕ → List ℕ → List ℕ → List ℕ → List ℕ → List ℕ → List ℕ → List ℕ → Buffers
 buffers_of d p o h w q i k = record { rows = lists_of o h w; memory = memory_of d p q i k }
+
+-- these from the slices that are lent in the structs of the code
+abbrev pub buffers_in : code.Lists ℕ → memory_code.Memory ℕ → Buffers
+buffers_in l m = buffers_of m.dist.now m.preds.now l.offsets.now l.heads.now l.weights.now m.peaks.now m.words.now m.keys.now
 
 -- is each buffer as long as the part used? 4m + 1 + 2a entries of scratch in all
 unfoldable pub long_enough : ℕ → ℕ → Buffers → Bool

@@ -2,68 +2,59 @@
 -- A refusal returns before the first write. Past it the list of open arcs is made, the search run, the scratch wiped, and after a bad cost the distances and
 -- predecessors are blanked: the two answers are laws of proofs/Answers.antt, at what the calls gave.
 -- Assumes nothing.
-use mathlib.Core.Path.{sym, ◌∙◌}
-use Rattle.table.specs.declared.FloatCost.{FloatCost}
-use Rattle.net.specs.Net.{Net, net_of64}
+use mathlib.Core.Path.{sym, ap, ◌∙◌}
+use native.Mathlib.Omega.{arith}
+use lib.ListN.{length}
+use Rattle.clean.specs.Fill.{filled}
+use Rattle.clean.specs.None.{none_f64, none_u32}
+use Rattle.numbers.proofs.Refused.{refused_ne0, number_handed_on}
 use Rattle.net.proofs.Bounds.{whole_floats}
 use Rattle.rows.proofs.Maps.{ready_floats}
-use Rattle.dijkstra_path.specs.Promise.{Buffers, buffers_of}
-use Rattle.dijkstra_path.proofs.Refusals.{refused, Passed, passed}
+use Rattle.search.specs.Found.{number_of}
+use Rattle.dijkstra_path.proofs.Refusals.{refused, passed}
 use Rattle.dijkstra_path.proofs.Answers.{room, source_below, list_sound, wipes, answer_done, answer_bad}
 use Rattle.dijkstra_path.proofs.dijkstra_path_impl.Goals as goal
-use Rattle.dijkstra_path.proofs.dijkstra_path_impl.Goals.{Else-refused-ne0}
 
--- past the refusals
-module _ (e : Else-refused-ne0) where
-  abbrev lent : Net FloatCost
-  lent =
-      net_of64 e.args.map.bound e.args.map.count e.args.map.directed e.args.marks.now e.args.from.now e.args.to.now
-      e.args.bits.now e.args.opens.now
-
-  abbrev buffers : Buffers
-  buffers =
-      buffers_of e.args.dist.now e.args.preds.now e.args.offsets.now e.args.heads.now e.args.weights.now e.args.peaks.now
-      e.args.words.now e.args.keys.now
-
-  ok : Passed lent e.args.source buffers
-  ok = passed lent e.args.source buffers (sym e.refusal-refused.ensures ∙ e.if-refused-ne0.false)
-
-pub returns-then-refused-ne0 : goal.returns-then-refused-ne0
-returns-then-refused-ne0 c = refused _ _ _ _ _ c.refusal-refused.ensures c.if-refused-ne0.true
+pub returns-in_err-refusal-clause-promise : goal.returns-in_err-refusal-clause-promise
+returns-in_err-refusal-clause-promise c =
+    let e = number_handed_on _ _ c.from_residual.ensures.1 in
+    refused _ _ _ _ _ (e ∙ c.in_err-refusal.ensures) (λ z. refused_ne0 _ (sym e ∙ z))
 
 pub most_arcs-a-requires : goal.most_arcs-a-requires
-most_arcs-a-requires c =
-    let v = c.args in
-    (whole_floats v.map.bound v.map.count v.map.directed v.marks.now v.from.now v.to.now v.bits.now v.opens.now (ok c).whole).links
+most_arcs-a-requires c = (whole_floats _ _ c.args.net.map.directed _ _ _ _ _ (passed _ _ _ (sym c.in_ok-refusal.ensures)).whole).links
 
-pub position_csr_f64-requires : goal.position_csr_f64-requires
-position_csr_f64-requires c =
-    let v = c.args in
-    let x = ok (goal.at.position_csr_f64-requires c).Else-refused-ne0 in
-    record {
-      ready = ready_floats v.map.bound v.map.count v.map.directed v.marks.now v.from.now v.to.now v.bits.now v.opens.now x.whole x.inside;
-      enough_for = room x;
-    }
+pub position_csr_f64-requires-clause-ready : goal.position_csr_f64-requires-clause-ready
+position_csr_f64-requires-clause-ready c =
+    let v = c.args.net in
+    let p = (passed _ _ _ (sym c.in_ok-refusal.ensures)) in
+    ready_floats v.map.bound v.map.count v.map.directed v.marks.now v.from.now v.to.now v.costs.bits.now v.costs.opens.now p.whole p.inside
 
-pub run-number-requires : goal.run-number-requires
-run-number-requires c =
-    let x = ok (goal.at.run-number-requires c).Else-refused-ne0 in
-    record { sound = list_sound x c.position_csr_f64.ensures; source_lt_m = source_below x; enough_memory = x.memory }
+pub position_csr_f64-requires-clause-enough_for : goal.position_csr_f64-requires-clause-enough_for
+position_csr_f64-requires-clause-enough_for c = room (passed _ _ _ (sym c.in_ok-refusal.ensures))
+
+pub run-found-requires : goal.run-found-requires
+run-found-requires c =
+    let p = (passed _ _ _ (sym c.in_ok-refusal.ensures)) in
+    record { sound = list_sound p c.position_csr_f64.ensures.rows; source_lt_m = source_below p; enough_memory = p.memory }
 
 pub wipe-requires : goal.wipe-requires
 wipe-requires c =
-    let y = wipes (ok (goal.at.wipe-requires c).Else-refused-ne0) c.position_csr_f64.ensures c.run-number.ensures c.most_arcs-a.ensures in
+    let y = wipes (passed _ _ _ (sym c.in_ok-refusal.ensures)) c.position_csr_f64.ensures.rows c.run-found.ensures.ran c.most_arcs-a.ensures in
     record { enough_lists = y.0; m_in_bounds = (y.1.peaks, y.1.words, y.1.keys) }
 
-pub returns-else-number-ne0 : goal.returns-else-number-ne0
-returns-else-number-ne0 c = answer_done (ok (goal.at.returns-else-number-ne0 c).Else-refused-ne0) c.position_csr_f64.ensures c.run-number.ensures c.most_arcs-a.ensures
-    c.wipe.ensures.weights_after c.wipe.ensures.peaks_after c.wipe.ensures.words_after c.wipe.ensures.keys_after c.if-number-ne0.false
+pub fill-requires : goal.fill-requires
+fill-requires c = omega (arith, (wipes (passed _ _ _ (sym c.in_ok-refusal.ensures)) c.position_csr_f64.ensures.rows c.run-found.ensures.ran c.most_arcs-a.ensures).1.dist, ap length c.wipe.ensures.dist_after)
 
-pub blank-requires : goal.blank-requires
-blank-requires c =
-    let y = wipes (ok (goal.at.blank-requires c).Else-refused-ne0) c.position_csr_f64.ensures c.run-number.ensures c.most_arcs-a.ensures in
-    (y.1.dist, y.1.preds)
+pub fill-requires-in-Err : goal.fill-requires-in-Err
+fill-requires-in-Err c = omega (arith, (wipes (passed _ _ _ (sym c.in_ok-refusal.ensures)) c.position_csr_f64.ensures.rows c.run-found.ensures.ran c.most_arcs-a.ensures).1.preds, ap length c.wipe.ensures.preds_after)
 
-pub returns-then-number-ne0 : goal.returns-then-number-ne0
-returns-then-number-ne0 c = answer_bad (ok (goal.at.returns-then-number-ne0 c).Else-refused-ne0) c.position_csr_f64.ensures c.run-number.ensures c.most_arcs-a.ensures
-    c.wipe.ensures.weights_after c.wipe.ensures.peaks_after c.wipe.ensures.words_after c.wipe.ensures.keys_after c.if-number-ne0.true c.blank.ensures.dist_after c.blank.ensures.preds_after
+pub returns-in-Ok-clause-promise : goal.returns-in-Ok-clause-promise
+returns-in-Ok-clause-promise c = answer_done (passed _ _ _ (sym c.in_ok-refusal.ensures)) c.position_csr_f64.ensures.rows c.run-found.ensures.ran c.most_arcs-a.ensures
+    c.wipe.ensures.lists_after c.wipe.ensures.peaks_after c.wipe.ensures.words_after c.wipe.ensures.keys_after
+    (ap number_of c.in-Ok.is) c.wipe.ensures.dist_after c.wipe.ensures.preds_after
+
+pub returns-in-Err-clause-promise : goal.returns-in-Err-clause-promise
+returns-in-Err-clause-promise c = answer_bad (passed _ _ _ (sym c.in_ok-refusal.ensures)) c.position_csr_f64.ensures.rows c.run-found.ensures.ran c.most_arcs-a.ensures
+    c.wipe.ensures.lists_after c.wipe.ensures.peaks_after c.wipe.ensures.words_after c.wipe.ensures.keys_after
+    (ap number_of c.in-Err.is) (c.fill.ensures ∙ ap (filled c.args.net.map.bound none_f64) c.wipe.ensures.dist_after)
+    (c.fill-in-Err.ensures ∙ ap (filled c.args.net.map.bound none_u32) c.wipe.ensures.preds_after)
