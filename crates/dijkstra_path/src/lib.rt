@@ -105,7 +105,7 @@ pub fn dijkstra_path_impl(
     refusal(net, source, lists, memory)?;
     let m = net.map.bound;
     let a = net.most_arcs();
-    rows::position_csr_f64(net, lists);
+    rows::position_csr(net, lists);
     let found = run(m, source, cutoff, lists, memory);
     wipe(m, a, lists, memory);
     match found {

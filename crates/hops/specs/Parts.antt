@@ -40,15 +40,6 @@ pub record Ripe (m n : ℕ) (d : Bool) (marks xs ys : List ℕ) (b : Buffers) : 
 abbrev pub RipeIn : {D : Type 0} → Lent D → Table → Scratch → Type 0
 RipeIn l t s = Ripe l.map.bound l.map.count l.map.directed l.marks.now l.from.now l.to.now (buffers_in t s)
 
--- the same slices are lent
-abbrev pub SameTable : Table → Table → Type 0
-SameTable t u = (u.nodes.ghost_name ≡ t.nodes.ghost_name) × (u.matrix.ghost_name ≡ t.matrix.ghost_name)
-
-abbrev pub SameScratch : Scratch → Scratch → Type 0
-SameScratch s t =
-    (t.offsets.ghost_name ≡ s.offsets.ghost_name) × (t.heads.ghost_name ≡ s.heads.ghost_name)
-    × (t.labels.ghost_name ≡ s.labels.ghost_name) × (t.queue.ghost_name ≡ s.queue.ghost_name)
-
 -- a map solved: the answer, and the length and the rest of each scratch slice as before
 pub record Solved {C : Type 0} (g : Net C) (b e : Buffers) (p : ℕ) : Type 0 where
   pub count : p ≡ width g

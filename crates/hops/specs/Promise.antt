@@ -25,6 +25,15 @@ buffers_of n x o h l q = record { nodes = n; matrix = x; offsets = o; heads = h;
 abbrev pub buffers_in : Table → Scratch → Buffers
 buffers_in t s = buffers_of t.nodes.now t.matrix.now s.offsets.now s.heads.now s.labels.now s.queue.now
 
+-- the same slices are lent as before
+abbrev pub SameTable : Table → Table → Type 0
+SameTable t u = (u.nodes.ghost_name ≡ t.nodes.ghost_name) × (u.matrix.ghost_name ≡ t.matrix.ghost_name)
+
+abbrev pub SameScratch : Scratch → Scratch → Type 0
+SameScratch s t =
+    (t.offsets.ghost_name ≡ s.offsets.ghost_name) × (t.heads.ghost_name ≡ s.heads.ghost_name)
+    × (t.labels.ghost_name ≡ s.labels.ghost_name) × (t.queue.ghost_name ≡ s.queue.ghost_name)
+
 -- is each buffer as long as its part used? Of scratch that is 3m + 2 + a entries
 unfoldable pub long_enough : ℕ → ℕ → ℕ → Buffers → Bool
 long_enough m a p b =

@@ -9,8 +9,8 @@ ghost use Rattle.rows.specs.Rows.{end_lists};
 ghost use Rattle.rows.specs.RowArc.{Sound};
 ghost use Rattle.hops.specs.Search.{RowLeads, label_of, size_after, Met, Open, RowDone, Fresh, Searched};
 ghost use Rattle.hops.specs.Search.{shown_of, CanShow, RowShown, CanRow, RowMade, CanFill, Filled};
-ghost use Rattle.hops.specs.Promise.{Promise, buffers_in, long_enough};
-ghost use Rattle.hops.specs.Parts.{refusal_no, net_ends, EnoughScratch, Wiped, RipeIn, Solved, Answered, SameTable, SameScratch};
+ghost use Rattle.hops.specs.Promise.{Promise, buffers_in, SameTable, SameScratch, long_enough};
+ghost use Rattle.hops.specs.Parts.{refusal_no, net_ends, EnoughScratch, Wiped, RipeIn, Solved, Answered};
 
 use net::{Costs, Lent};
 use numbers::Refusal;

@@ -20,7 +20,8 @@ pub arcs_flat : {C : Type 0} (d : Bool) (ls : List (Link C)) → flat (arcs_of d
 arcs_flat d [] = refl
 arcs_flat d (l ∷ ls) = ap (λ as'. arcs_of d l ++ as') (arcs_flat d ls)
 
-pub ints_given : (d : Bool) (n : ℕ) (xs ys : List ℕ) (cs : List ℤ) → arcs_ints d n xs ys cs ≡ flat (given_arcs int_weight d) (links n xs ys cs)
+pub ints_given : (d : Bool) (n : ℕ) (xs ys : List ℕ) (cs : List ℤ)
+    → arcs_ints d n xs ys cs ≡ flat (given_arcs int_weight d) (links n xs ys cs)
 ints_given d n xs ys cs = sym (arcs_flat d (links n xs ys cs))
 
 -- and those of the open links of an f64 map
@@ -29,9 +30,11 @@ open_flat d [] = refl
 open_flat d (l ∷ ls) = go l.cost.opened (open_flat d ls)
   where
     go : (t : Bool) → arcs d (open_links ls) ≡ flat (given_arcs float_weight d) ls
-        → arcs d (cond t (link_of l.a l.b l.cost.bits ∷ open_links ls) (open_links ls)) ≡ given_by d l.a l.b (cond t (Some l.cost.bits) None) ++ flat (given_arcs float_weight d) ls
+        → arcs d (cond t (link_of l.a l.b l.cost.bits ∷ open_links ls) (open_links ls))
+        ≡ given_by d l.a l.b (cond t (Some l.cost.bits) None) ++ flat (given_arcs float_weight d) ls
     go true e = ap (λ as'. arcs_of d (link_of l.a l.b l.cost.bits) ++ as') e
     go false e = e
 
-pub floats_given : (d : Bool) (n : ℕ) (xs ys bs os : List ℕ) → arcs_open d n xs ys bs os ≡ flat (given_arcs float_weight d) (links n xs ys (float_costs bs os))
+pub floats_given : (d : Bool) (n : ℕ) (xs ys bs os : List ℕ)
+    → arcs_open d n xs ys bs os ≡ flat (given_arcs float_weight d) (links n xs ys (float_costs bs os))
 floats_given d n xs ys bs os = open_flat d (links n xs ys (float_costs bs os))

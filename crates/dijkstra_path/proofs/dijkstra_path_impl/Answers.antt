@@ -23,38 +23,38 @@ returns-in_err-refusal-clause-promise c =
 pub most_arcs-a-requires : goal.most_arcs-a-requires
 most_arcs-a-requires c = (whole_floats _ _ c.args.net.map.directed _ _ _ _ _ (passed _ _ _ (sym c.in_ok-refusal.ensures)).whole).links
 
-pub position_csr_f64-requires-clause-ready : goal.position_csr_f64-requires-clause-ready
-position_csr_f64-requires-clause-ready c =
+pub position_csr-requires-clause-ready : goal.position_csr-requires-clause-ready
+position_csr-requires-clause-ready c =
     let v = c.args.net in
     let p = (passed _ _ _ (sym c.in_ok-refusal.ensures)) in
     ready_floats v.map.bound v.map.count v.map.directed v.marks.now v.from.now v.to.now v.costs.bits.now v.costs.opens.now p.whole p.inside
 
-pub position_csr_f64-requires-clause-enough_for : goal.position_csr_f64-requires-clause-enough_for
-position_csr_f64-requires-clause-enough_for c = room (passed _ _ _ (sym c.in_ok-refusal.ensures))
+pub position_csr-requires-clause-enough_for : goal.position_csr-requires-clause-enough_for
+position_csr-requires-clause-enough_for c = room (passed _ _ _ (sym c.in_ok-refusal.ensures))
 
 pub run-found-requires : goal.run-found-requires
 run-found-requires c =
     let p = (passed _ _ _ (sym c.in_ok-refusal.ensures)) in
-    record { sound = list_sound p c.position_csr_f64.ensures.rows; source_lt_m = source_below p; enough_memory = p.memory }
+    record { sound = list_sound p c.position_csr.ensures.rows; source_lt_m = source_below p; enough_memory = p.memory }
 
 pub wipe-requires : goal.wipe-requires
 wipe-requires c =
-    let y = wipes (passed _ _ _ (sym c.in_ok-refusal.ensures)) c.position_csr_f64.ensures.rows c.run-found.ensures.ran c.most_arcs-a.ensures in
+    let y = wipes (passed _ _ _ (sym c.in_ok-refusal.ensures)) c.position_csr.ensures.rows c.run-found.ensures.ran c.most_arcs-a.ensures in
     record { enough_lists = y.0; m_in_bounds = (y.1.peaks, y.1.words, y.1.keys) }
 
 pub fill-requires : goal.fill-requires
-fill-requires c = omega (arith, (wipes (passed _ _ _ (sym c.in_ok-refusal.ensures)) c.position_csr_f64.ensures.rows c.run-found.ensures.ran c.most_arcs-a.ensures).1.dist, ap length c.wipe.ensures.dist_after)
+fill-requires c = omega (arith, (wipes (passed _ _ _ (sym c.in_ok-refusal.ensures)) c.position_csr.ensures.rows c.run-found.ensures.ran c.most_arcs-a.ensures).1.dist, ap length c.wipe.ensures.dist_after)
 
 pub fill-requires-in-Err : goal.fill-requires-in-Err
-fill-requires-in-Err c = omega (arith, (wipes (passed _ _ _ (sym c.in_ok-refusal.ensures)) c.position_csr_f64.ensures.rows c.run-found.ensures.ran c.most_arcs-a.ensures).1.preds, ap length c.wipe.ensures.preds_after)
+fill-requires-in-Err c = omega (arith, (wipes (passed _ _ _ (sym c.in_ok-refusal.ensures)) c.position_csr.ensures.rows c.run-found.ensures.ran c.most_arcs-a.ensures).1.preds, ap length c.wipe.ensures.preds_after)
 
 pub returns-in-Ok-clause-promise : goal.returns-in-Ok-clause-promise
-returns-in-Ok-clause-promise c = answer_done (passed _ _ _ (sym c.in_ok-refusal.ensures)) c.position_csr_f64.ensures.rows c.run-found.ensures.ran c.most_arcs-a.ensures
+returns-in-Ok-clause-promise c = answer_done (passed _ _ _ (sym c.in_ok-refusal.ensures)) c.position_csr.ensures.rows c.run-found.ensures.ran c.most_arcs-a.ensures
     c.wipe.ensures.lists_after c.wipe.ensures.peaks_after c.wipe.ensures.words_after c.wipe.ensures.keys_after
     (ap number_of c.in-Ok.is) c.wipe.ensures.dist_after c.wipe.ensures.preds_after
 
 pub returns-in-Err-clause-promise : goal.returns-in-Err-clause-promise
-returns-in-Err-clause-promise c = answer_bad (passed _ _ _ (sym c.in_ok-refusal.ensures)) c.position_csr_f64.ensures.rows c.run-found.ensures.ran c.most_arcs-a.ensures
+returns-in-Err-clause-promise c = answer_bad (passed _ _ _ (sym c.in_ok-refusal.ensures)) c.position_csr.ensures.rows c.run-found.ensures.ran c.most_arcs-a.ensures
     c.wipe.ensures.lists_after c.wipe.ensures.peaks_after c.wipe.ensures.words_after c.wipe.ensures.keys_after
     (ap number_of c.in-Err.is) (c.fill.ensures ∙ ap (filled c.args.net.map.bound none_f64) c.wipe.ensures.dist_after)
     (c.fill-in-Err.ensures ∙ ap (filled c.args.net.map.bound none_u32) c.wipe.ensures.preds_after)
