@@ -13,7 +13,7 @@ const MINUS_ONE: u64 = 0xbff0_0000_0000_0000;
 
 const NAN: u64 = 0x7ff8_0000_0000_0000;
 
-// The map of a case.
+// The map of a case. It has its own `read`: other words are read, into other slices.
 #[derive(Drop)]
 pub struct Case {
     map: Map,
@@ -97,6 +97,7 @@ impl Case {
             line.whole(0)?;
             None
         };
+        // `ints::with_memory` serves i64 alone: over a type parameter the borrow checker does not cover it.
         let mut lists = Lists {
             offsets: &mut [0; 9],
             heads: &mut [0; 32],
