@@ -23,7 +23,8 @@ fn long_enough(m: usize, a: usize, lists: &Lists<i64>, memory: &Memory<i64>) -> 
     lists.long_enough(m, a) && memory.long_enough(m)
 }
 
-// Limit where a limit is passed or a lent slice is too short, Index where a link names an index that the map has not, Source where the source is one.
+// Limit where a limit is passed or a lent slice is too short, Index where a link names an index that the map has not,
+// Source where the source is one.
 #[tactic(auto, unfolding(crate::specs::Parts::refusal_no))]
 fn refusal(
     net: Lent<Ints>,
