@@ -45,6 +45,15 @@ module _ (ps : List ℕ) (s : ℕ) where
       go true h = omega arith
       go false h = omega (arith, length-append (trail ps s k (get_or ps v 0)) (v ∷ []))
 
+  -- one index, at least
+  pub trail_some : (k v : ℕ) → 0 < length (trail ps s k v)
+  trail_some zero v = omega arith
+  trail_some (suc k) v = go (eqb v s)
+    where
+      go : (b : Bool) → 0 < length {A = ℕ} (elim b [ true ↦ v ∷ [] | false ↦ trail ps s k (get_or ps v 0) ++ (v ∷ []) ])
+      go true = omega arith
+      go false = omega (arith, length-append (trail ps s k (get_or ps v 0)) (v ∷ []))
+
   -- an index that is not the source has an arc back
   pub back_some : (k v : ℕ) → GoesBack ps s k v → (v ≡ s → ⊥) → 0 < k
   back_some zero v g n = absurd (n g.1)
