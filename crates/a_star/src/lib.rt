@@ -144,11 +144,12 @@ fn write_path(preds: &[u32], source: usize, v: usize, left: usize, path: &mut [u
 {
     if v == source {
         path[0] = v as u32;
-        return 1;
+        1
+    } else {
+        let n = write_path(preds, source, preds[v] as usize, left - 1, path);
+        path[n] = v as u32;
+        n + 1
     }
-    let n = write_path(preds, source, preds[v] as usize, left - 1, path);
-    path[n] = v as u32;
-    n + 1
 }
 
 // The answer after a search: none in the path's slice, and the path if the target has a distance.
