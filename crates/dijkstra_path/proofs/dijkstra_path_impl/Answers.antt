@@ -43,18 +43,14 @@ wipe-requires c =
     record { enough_lists = y.0; m_in_bounds = (y.1.peaks, y.1.words, y.1.keys) }
 
 pub fill-requires : goal.fill-requires
-fill-requires c = omega (
-  arith,
-  (wipes (passed _ _ _ (sym c.in_ok-refusal.ensures)) c.position_csr.ensures.rows c.run-found.ensures.ran c.most_arcs-a.ensures).1.dist,
-  ap length c.wipe.ensures.dist_after,
-)
+fill-requires c =
+    let y = wipes (passed _ _ _ (sym c.in_ok-refusal.ensures)) c.position_csr.ensures.rows c.run-found.ensures.ran c.most_arcs-a.ensures in
+    omega (arith, y.1.dist, ap length c.wipe.ensures.dist_after)
 
 pub fill-requires-in-Err : goal.fill-requires-in-Err
-fill-requires-in-Err c = omega (
-  arith,
-  (wipes (passed _ _ _ (sym c.in_ok-refusal.ensures)) c.position_csr.ensures.rows c.run-found.ensures.ran c.most_arcs-a.ensures).1.preds,
-  ap length c.wipe.ensures.preds_after,
-)
+fill-requires-in-Err c =
+    let y = wipes (passed _ _ _ (sym c.in_ok-refusal.ensures)) c.position_csr.ensures.rows c.run-found.ensures.ran c.most_arcs-a.ensures in
+    omega (arith, y.1.preds, ap length c.wipe.ensures.preds_after)
 
 pub returns-in-Ok-clause-promise : goal.returns-in-Ok-clause-promise
 returns-in-Ok-clause-promise c = answer_done (passed _ _ _ (sym c.in_ok-refusal.ensures)) c.position_csr.ensures.rows c.run-found.ensures.ran c.most_arcs-a.ensures
