@@ -1,7 +1,7 @@
 -- The refusals 1, 2 and 3 as facts, and what a call that is not refused may rest on.
 -- Assumes nothing.
-use mathlib.Core.Path.{◌≡◌, refl, sym, ap, ◌∙◌}
-use mathlib.Core.Bool.{Bool, true, false}
+use mathlib.Core.Path.{◌≡◌, refl}
+use mathlib.Core.Bool.{true}
 use Prim.Native.Nat.{ℕ, ◌≤◌}
 use lib.IntN.{ℤ}
 use lib.ListN.{length}
@@ -16,31 +16,6 @@ use Rattle.dijkstra.specs.Parts.{refusal_no, EnoughScratch}
 
 -- ---- the number of the refusal
 module _ (g : Net ℤ) (s : ℕ) (b : Buffers) where
-  pub refused_limits : whole_net g ≡ false → 1 ≡ refusal_no g s b
-  unfolding refusal_no
-  refused_limits e = rw e
-
-  -- r is what the test of the lengths gave
-  module _ (e : whole_net g ≡ true) {a : ℕ} {r : Bool} (t : r ≡ long_enough g.bound a b) (is : a ≡ most_arcs_of g) where
-    tested : {x : Bool} → r ≡ x → long_enough g.bound (most_arcs_of g) b ≡ x
-    tested f = sym (t ∙ ap (λ (n : ℕ). long_enough g.bound n b) is) ∙ f
-
-    pub refused_short : r ≡ false → 1 ≡ refusal_no g s b
-    unfolding refusal_no
-    refused_short f = rw (e, tested f)
-
-    pub refused_outside : r ≡ true → inside_net g ≡ false → 2 ≡ refusal_no g s b
-    unfolding refusal_no
-    refused_outside f i = rw (e, tested f, i)
-
-    pub refused_unknown : r ≡ true → inside_net g ≡ true → has g s ≡ false → 3 ≡ refusal_no g s b
-    unfolding refusal_no
-    refused_unknown f i h = rw (e, tested f, i, h)
-
-    pub refused_none : r ≡ true → inside_net g ≡ true → has g s ≡ true → 0 ≡ refusal_no g s b
-    unfolding refusal_no
-    refused_none f i h = rw (e, tested f, i, h)
-
   -- a refusal is what the promise says
   pub refused : (r : ℕ) → r ≡ refusal_no g s b → (r ≡ 0 → ⊥) → Promise g s b b r
   unfolding refusal_no

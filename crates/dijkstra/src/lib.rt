@@ -12,6 +12,7 @@ ghost use Rattle.dijkstra.specs.Parts.{refusal_no, EnoughScratch, Ripe, Solved};
 use table::Map;
 
 // Is each buffer as long as the part used?
+#[tactic(auto, unfolding(crate::specs::Promise::long_enough))]
 fn long_enough(
     m: usize,
     a: usize,
@@ -28,14 +29,13 @@ fn long_enough(
         peaks.now words.now keys.now in
         result ≡ long_enough m a lent }
 {
-    if !rows::has_lists(m, a, offsets, heads, weights) {
-        return false;
-    }
-    search::ints::has_memory(m, dist, preds, peaks, words, keys)
+    rows::has_lists(m, a, offsets, heads, weights)
+        && search::ints::has_memory(m, dist, preds, peaks, words, keys)
 }
 
 // 1 where a limit is passed or a lent slice is too short,
 // 2 where a link names an index that the map has not, 3 where the source is one, else 0.
+#[tactic(auto, unfolding(crate::specs::Parts::refusal_no))]
 fn refusal(
     map: Map,
     marks: &[u8],
@@ -58,22 +58,28 @@ fn refusal(
         peaks.now words.now keys.now in
         result ≡ refusal_no net source lent }
 {
-    if !net::whole(map, marks, from, to, costs) {
-        return 1;
+    if !net::whole(map, marks, from, to, costs)
+        || !long_enough(
+            map.bound,
+            net::most_arcs(map.directed, map.count),
+            dist,
+            offsets,
+            heads,
+            weights,
+            preds,
+            peaks,
+            words,
+            keys,
+        )
+    {
+        1
+    } else if !net::inside(map, marks, from, to, costs) {
+        2
+    } else if !net::has_index(map.bound, marks, source) {
+        3
+    } else {
+        0
     }
-    let a = net::most_arcs(map.directed, map.count);
-    if !long_enough(
-        map.bound, a, dist, offsets, heads, weights, preds, peaks, words, keys,
-    ) {
-        return 1;
-    }
-    if !net::inside(map, marks, from, to, costs) {
-        return 2;
-    }
-    if !net::has_index(map.bound, marks, source) {
-        return 3;
-    }
-    0
 }
 
 // Zero in the part used of each scratch slice.
@@ -100,17 +106,6 @@ fn wipe(
     clean::clear_usize(peaks, m);
     clean::clear_usize(words, m);
     clean::clear_i64(keys, m);
-}
-
-// None in the distances used, unless the number is 0.
-fn blank_refused(number: usize, dist: &mut [i64], m: usize)
-    requires { m ≤ length dist.old }
-    ensures { (number ≡ 0 → dist.new ≡ dist.old)
-        × ((number ≡ 0 → ⊥) → dist.new ≡ filled m none_i64 dist.old) }
-{
-    if number != 0 {
-        clean::blank_i64(dist, m);
-    }
 }
 
 // The neighbour list is made, and the search run on it. 0, or 6 where a cost below zero was met.
@@ -183,6 +178,8 @@ pub fn dijkstra(
         map, from, to, costs, source, dist, offsets, heads, weights, preds, peaks, words, keys,
     );
     wipe(m, a, offsets, heads, weights, preds, peaks, words, keys);
-    blank_refused(end, dist, m);
+    if end != 0 {
+        clean::blank_i64(dist, m);
+    }
     end
 }

@@ -3,7 +3,7 @@
 -- the promise says. The search ran over the neighbour list, whose arcs are the open arcs of the map, with the cutoff as a number, which cuts the same totals: so its
 -- end is the end of the pending bag that the promise names. A number that is not 0 is 6, since a search ends in no other.
 -- Assumes nothing.
-use mathlib.Core.Path.{◌≡◌, refl, sym, ap, ◌∙◌, subst}
+use mathlib.Core.Path.{◌≡◌, sym, ap, ◌∙◌, subst}
 use mathlib.Core.List.{List}
 use mathlib.Core.Logic.{◌⊎◌, inl, inr}
 use mathlib.Core.Option.{none}
@@ -93,12 +93,12 @@ module _ {g : Net FloatCost} {s : ℕ} {b : Buffers} (ok : Passed g s b) where
             λ j. record { rows = rows j; memory = memory_of x p (eq j) (ei j) (ey j) }
 
         -- done
-        pub answer_done : number ≡ 0 → Promise g s k b (buffers_of M.dist M.preds o h w q i y) 0
+        pub answer_done : number ≡ 0 → Promise g s k b (buffers_of M.dist M.preds o h w q i y) number
         answer_done e =
             let zero : v.ran.searched.end.number ≡ 0 = sym v.ran.searched.is ∙ e in
             record {
               follows = numbers.past ok.long (numbers.past ok.inside (numbers.past ok.source (numbers.past (λ y. split y.1 y.2 ends_in zero)
-                  (numbers.here tt (refl, (v.ran.searched.end, ends_in, zero, record { dist = dists e; preds = names e }, all_wiped M.dist M.preds))))));
+                  (numbers.here tt (e, (v.ran.searched.end, ends_in, zero, record { dist = dists e; preds = names e }, all_wiped M.dist M.preds))))));
             }
 
         -- a bad cost

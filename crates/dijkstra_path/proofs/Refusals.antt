@@ -1,7 +1,7 @@
 -- The refusals 1, 2 and 3 as facts, and what a call that is not refused may rest on.
 -- Assumes nothing.
-use mathlib.Core.Path.{◌≡◌, refl, sym, ap, ◌∙◌}
-use mathlib.Core.Bool.{Bool, true, false}
+use mathlib.Core.Path.{◌≡◌, refl}
+use mathlib.Core.Bool.{true}
 use Prim.Native.Nat.{ℕ}
 use Rattle.whole.proofs.Cases.{and_left, and_right}
 use Rattle.numbers.proofs.Numbers.{◌then◌}
@@ -19,32 +19,6 @@ use Rattle.float.specs.Cutoff.{Cutoff}
 use Rattle.std.specs.Prelude.{None}
 
 module _ (g : Net FloatCost) (s : ℕ) (b : Buffers) where
-  -- ---- the tests, one after the other
-  pub refused_limits : whole_net g ≡ false → 1 ≡ refusal_no g s b
-  unfolding refusal_no
-  refused_limits e = rw e
-
-  -- the test of the buffers, which said r
-  module _ (e : whole_net g ≡ true) {a : ℕ} {r : Bool} (said : r ≡ long_enough g.bound a b) (room : a ≡ most_arcs_of g) where
-    gave : long_enough g.bound (most_arcs_of g) b ≡ r
-    gave = sym (said ∙ ap (λ (n : ℕ). long_enough g.bound n b) room)
-
-    pub refused_short : r ≡ false → 1 ≡ refusal_no g s b
-    unfolding refusal_no
-    refused_short f = rw (e, gave ∙ f)
-
-    pub refused_outside : r ≡ true → inside_net g ≡ false → 2 ≡ refusal_no g s b
-    unfolding refusal_no
-    refused_outside f i = rw (e, gave ∙ f, i)
-
-    pub refused_absent : r ≡ true → inside_net g ≡ true → has g s ≡ false → 3 ≡ refusal_no g s b
-    unfolding refusal_no
-    refused_absent f i h = rw (e, gave ∙ f, i, h)
-
-    pub refused_none : r ≡ true → inside_net g ≡ true → has g s ≡ true → 0 ≡ refusal_no g s b
-    unfolding refusal_no
-    refused_none f i h = rw (e, gave ∙ f, i, h)
-
   -- a refusal is what the promise says
   pub refused : (k : Cutoff) (r : ℕ) → r ≡ refusal_no g s b → (r ≡ 0 → ⊥) → Promise g s k b b r
   unfolding refusal_no

@@ -18,6 +18,7 @@ ghost use Rattle.dijkstra_path.specs.Parts.{refusal_no, Ran};
 use table::Map;
 
 // Is each buffer as long as the part used?
+#[tactic(auto, unfolding(crate::specs::Promise::long_enough, rows::specs::Scratch::has_lists, search::specs::Lists::has_memory))]
 fn long_enough(
     m: usize,
     a: usize,
@@ -35,35 +36,19 @@ fn long_enough(
         peaks.now words.now keys.now in
         result ≡ long_enough m a lent }
 {
-    if offsets.len() < m + 1 {
-        return false;
-    }
-    if heads.len() < a {
-        return false;
-    }
-    if weights.len() < a {
-        return false;
-    }
-    if dist.len() < m {
-        return false;
-    }
-    if preds.len() < m {
-        return false;
-    }
-    if peaks.len() < m {
-        return false;
-    }
-    if words.len() < m {
-        return false;
-    }
-    if keys.len() < m {
-        return false;
-    }
-    true
+    m + 1 <= offsets.len()
+        && a <= heads.len()
+        && a <= weights.len()
+        && m <= dist.len()
+        && m <= preds.len()
+        && m <= peaks.len()
+        && m <= words.len()
+        && m <= keys.len()
 }
 
 // 1 where a limit is passed or a lent slice is too short, 2 where a link names an index that the map has not,
 // 3 where the source is such an index, else 0.
+#[tactic(auto, unfolding(crate::specs::Parts::refusal_no))]
 fn refusal(
     map: Map,
     marks: &[u8],
@@ -87,22 +72,28 @@ fn refusal(
         peaks.now words.now keys.now in
         result ≡ refusal_no net source lent }
 {
-    if !net::whole_f64(map, marks, from, to, bits, opens) {
-        return 1;
+    if !net::whole_f64(map, marks, from, to, bits, opens)
+        || !long_enough(
+            map.bound,
+            net::most_arcs(map.directed, map.count),
+            dist,
+            preds,
+            offsets,
+            heads,
+            weights,
+            peaks,
+            words,
+            keys,
+        )
+    {
+        1
+    } else if !net::inside_f64(map, marks, from, to, bits, opens) {
+        2
+    } else if !net::has_index(map.bound, marks, source) {
+        3
+    } else {
+        0
     }
-    let a = net::most_arcs(map.directed, map.count);
-    if !long_enough(
-        map.bound, a, dist, preds, offsets, heads, weights, peaks, words, keys,
-    ) {
-        return 1;
-    }
-    if !net::inside_f64(map, marks, from, to, bits, opens) {
-        return 2;
-    }
-    if !net::has_index(map.bound, marks, source) {
-        return 3;
-    }
-    0
 }
 
 // The search on the part used of each list. The cutoff's value is read off once, not for each arc.
@@ -212,10 +203,9 @@ pub fn dijkstra_path_impl(
         m, source, cutoff, offsets, heads, weights, dist, preds, peaks, words, keys,
     );
     wipe(m, a, offsets, heads, weights, peaks, words, keys);
-    if number == 0 {
-        return 0;
+    if number != 0 {
+        blank(m, dist, preds);
     }
-    blank(m, dist, preds);
     number
 }
 

@@ -1,40 +1,18 @@
--- `dijkstra::refusal` meets its contract.
+-- `dijkstra::refusal` meets its contract: what `most_arcs` and `has_index` ask is in `whole`.
 -- Assumes nothing.
-use mathlib.Core.Path.{sym, ◌∙◌}
-use borrow.Author.Tests.{not-true, not-false}
-use Rattle.table.proofs.Laws.{whole}
+use Rattle.std.proofs.Common.{rules, ◌≡◌, true}
+use Rattle.net.specs.Net.{net_of, whole_net}
 use Rattle.net.proofs.Bounds.{whole_ints}
-use Rattle.dijkstra.proofs.Refusals.{refused_limits, refused_short, refused_outside, refused_unknown, refused_none}
 use Rattle.dijkstra.proofs.refusal.Goals as goal
 
-pub returns-then-not-whole : goal.returns-then-not-whole
-returns-then-not-whole c = refused_limits _ _ _ (sym c.whole.ensures ∙ not-true _ c.if-not-whole.true-raw)
-
-pub most_arcs-a-requires : goal.most_arcs-a-requires
-most_arcs-a-requires c =
+pub most_arcs-requires : goal.most_arcs-requires
+most_arcs-requires c =
     let v = c.args in
-    (whole_ints v.map.bound v.map.count v.map.directed v.marks.now v.from.now v.to.now v.costs.now (sym c.whole.ensures ∙ not-false _ c.if-not-whole.false-raw)).links
-
-pub returns-then-not-long_enough : goal.returns-then-not-long_enough
-returns-then-not-long_enough c = refused_short _ _ _ (sym c.whole.ensures ∙ not-false _ c.if-not-whole.false-raw) c.long_enough.ensures c.most_arcs-a.ensures (not-true _ c.if-not-long_enough.true-raw)
-
-pub inside-requires : goal.inside-requires
-inside-requires c = sym c.whole.ensures ∙ not-false _ c.if-not-whole.false-raw
-
-pub returns-then-not-inside : goal.returns-then-not-inside
-returns-then-not-inside c = refused_outside _ _ _ (sym c.whole.ensures ∙ not-false _ c.if-not-whole.false-raw) c.long_enough.ensures c.most_arcs-a.ensures
-    (not-false _ c.if-not-long_enough.false-raw) (sym c.inside.ensures ∙ not-true _ c.if-not-inside.true-raw)
+    let e : whole_net (net_of v.map.bound v.map.count v.map.directed v.marks.now v.from.now v.to.now v.costs.now) ≡ true = search rules in
+    (whole_ints _ _ v.map.directed _ _ _ _ e).links
 
 pub has_index-requires : goal.has_index-requires
-has_index-requires c = (whole _ _ _ _ (sym c.whole.ensures ∙ not-false _ c.if-not-whole.false-raw)).marked
-
-pub returns-then-not-has_index : goal.returns-then-not-has_index
-returns-then-not-has_index c =
-    refused_unknown _ _ _ (sym c.whole.ensures ∙ not-false _ c.if-not-whole.false-raw) c.long_enough.ensures c.most_arcs-a.ensures (not-false _ c.if-not-long_enough.false-raw)
-    (sym c.inside.ensures ∙ not-false _ c.if-not-inside.false-raw)
-    (sym c.has_index.ensures ∙ not-true _ c.if-not-has_index.true-raw)
-
-pub returns : goal.returns
-returns c = refused_none _ _ _ (sym c.whole.ensures ∙ not-false _ c.if-not-whole.false-raw) c.long_enough.ensures c.most_arcs-a.ensures (not-false _ c.if-not-long_enough.false-raw)
-    (sym c.inside.ensures ∙ not-false _ c.if-not-inside.false-raw)
-    (sym c.has_index.ensures ∙ not-false _ c.if-not-has_index.false-raw)
+has_index-requires c =
+    let v = c.args in
+    let e : whole_net (net_of v.map.bound v.map.count v.map.directed v.marks.now v.from.now v.to.now v.costs.now) ≡ true = search rules in
+    (whole_ints _ _ v.map.directed _ _ _ _ e).marked

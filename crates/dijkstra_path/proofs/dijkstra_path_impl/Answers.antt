@@ -55,57 +55,15 @@ wipe-requires c =
     let y = wipes (ok (goal.at.wipe-requires c).Else-refused-ne0) c.position_csr_f64.ensures c.run-number.ensures c.most_arcs-a.ensures in
     record { enough_lists = y.0; m_in_bounds = (y.1.peaks, y.1.words, y.1.keys) }
 
-pub shape_of-offsets-then-number-eq0 : goal.shape_of-offsets-then-number-eq0
-shape_of-offsets-then-number-eq0 c = c.wipe.auto.offsets ∙ c.position_csr_f64.auto.offsets
-
-pub shape_of-heads-then-number-eq0 : goal.shape_of-heads-then-number-eq0
-shape_of-heads-then-number-eq0 c = c.wipe.auto.heads ∙ c.position_csr_f64.auto.heads
-
-pub shape_of-weights-then-number-eq0 : goal.shape_of-weights-then-number-eq0
-shape_of-weights-then-number-eq0 c = c.wipe.auto.weights ∙ c.position_csr_f64.auto.weights
-
-pub shape_of-peaks-then-number-eq0 : goal.shape_of-peaks-then-number-eq0
-shape_of-peaks-then-number-eq0 c = c.wipe.auto.peaks ∙ c.run-number.auto.peaks
-
-pub shape_of-words-then-number-eq0 : goal.shape_of-words-then-number-eq0
-shape_of-words-then-number-eq0 c = c.wipe.auto.words ∙ c.run-number.auto.words
-
-pub shape_of-keys-then-number-eq0 : goal.shape_of-keys-then-number-eq0
-shape_of-keys-then-number-eq0 c = c.wipe.auto.keys ∙ c.run-number.auto.keys
-
-pub returns-then-number-eq0 : goal.returns-then-number-eq0
-returns-then-number-eq0 c = answer_done (ok (goal.at.returns-then-number-eq0 c).Else-refused-ne0) c.position_csr_f64.ensures c.run-number.ensures c.most_arcs-a.ensures
-    c.wipe.ensures.weights_after c.wipe.ensures.peaks_after c.wipe.ensures.words_after c.wipe.ensures.keys_after c.if-number-eq0.true
+pub returns-else-number-ne0 : goal.returns-else-number-ne0
+returns-else-number-ne0 c = answer_done (ok (goal.at.returns-else-number-ne0 c).Else-refused-ne0) c.position_csr_f64.ensures c.run-number.ensures c.most_arcs-a.ensures
+    c.wipe.ensures.weights_after c.wipe.ensures.peaks_after c.wipe.ensures.words_after c.wipe.ensures.keys_after c.if-number-ne0.false
 
 pub blank-requires : goal.blank-requires
 blank-requires c =
     let y = wipes (ok (goal.at.blank-requires c).Else-refused-ne0) c.position_csr_f64.ensures c.run-number.ensures c.most_arcs-a.ensures in
     (y.1.dist, y.1.preds)
 
-pub shape_of-dist : goal.shape_of-dist
-shape_of-dist c = c.blank.auto.dist ∙ c.run-number.auto.dist
-
-pub shape_of-preds : goal.shape_of-preds
-shape_of-preds c = c.blank.auto.preds ∙ c.run-number.auto.preds
-
-pub shape_of-offsets : goal.shape_of-offsets
-shape_of-offsets c = c.wipe.auto.offsets ∙ c.position_csr_f64.auto.offsets
-
-pub shape_of-heads : goal.shape_of-heads
-shape_of-heads c = c.wipe.auto.heads ∙ c.position_csr_f64.auto.heads
-
-pub shape_of-weights : goal.shape_of-weights
-shape_of-weights c = c.wipe.auto.weights ∙ c.position_csr_f64.auto.weights
-
-pub shape_of-peaks : goal.shape_of-peaks
-shape_of-peaks c = c.wipe.auto.peaks ∙ c.run-number.auto.peaks
-
-pub shape_of-words : goal.shape_of-words
-shape_of-words c = c.wipe.auto.words ∙ c.run-number.auto.words
-
-pub shape_of-keys : goal.shape_of-keys
-shape_of-keys c = c.wipe.auto.keys ∙ c.run-number.auto.keys
-
-pub returns : goal.returns
-returns c = answer_bad (ok (goal.at.returns c).Else-refused-ne0) c.position_csr_f64.ensures c.run-number.ensures c.most_arcs-a.ensures
-    c.wipe.ensures.weights_after c.wipe.ensures.peaks_after c.wipe.ensures.words_after c.wipe.ensures.keys_after c.if-number-eq0.false c.blank.ensures.dist_after c.blank.ensures.preds_after
+pub returns-then-number-ne0 : goal.returns-then-number-ne0
+returns-then-number-ne0 c = answer_bad (ok (goal.at.returns-then-number-ne0 c).Else-refused-ne0) c.position_csr_f64.ensures c.run-number.ensures c.most_arcs-a.ensures
+    c.wipe.ensures.weights_after c.wipe.ensures.peaks_after c.wipe.ensures.words_after c.wipe.ensures.keys_after c.if-number-ne0.true c.blank.ensures.dist_after c.blank.ensures.preds_after
