@@ -21,7 +21,7 @@ ghost use Rattle.turns.proofs.Right.{Way, Right};
 ghost use Rattle.search.specs.Target.{target_in};
 ghost use Rattle.search.specs.Found.{number_of, takes_of};
 ghost use Rattle.search.specs.Runs.{Cheap, ToAll};
-ghost use Rattle.search.specs.Lists.{has_memory, wiped_with, memory_in, SameMemory};
+ghost use Rattle.search.specs.Lists.{has_memory, wiped_with, bag_wiped, memory_in, SameMemory};
 
 use bag::Key;
 use numbers::Refusal;
@@ -124,6 +124,15 @@ impl<'a, K: Copy> Memory<'a, K> {
     {
         clean::fill(self.dist, m, zero);
         clean::fill(self.preds, m, 0);
+        self.wipe_bag(m, zero);
+    }
+
+    // The same in the bag's lists alone.
+    pub fn wipe_bag(&mut self, m: usize, zero: K)
+        requires { EnoughMemory m (memory_in self.old) }
+        ensures wiped { memory_in self.new ≡ bag_wiped zero m (memory_in self.old) }
+        ensures same { SameMemory self.old self.new }
+    {
         clean::fill(self.peaks, m, 0);
         clean::fill(self.words, m, 0);
         clean::fill(self.keys, m, zero);

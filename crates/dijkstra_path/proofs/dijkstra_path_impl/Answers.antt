@@ -1,69 +1,77 @@
--- `dijkstra_path::dijkstra_path_impl` meets its contract.
+-- `dijkstra_path::dijkstra_path_impl` keeps its promise.
 -- A refusal returns before the first write. Past it the list of open arcs is made, the search run, the scratch wiped, and after a bad cost the distances and
 -- predecessors are blanked: the two answers are laws of proofs/Answers.antt, at what the calls gave.
 -- Assumes nothing.
-use mathlib.Core.Path.{sym, ◌∙◌}
+use mathlib.Core.Path.{sym, ap, ◌∙◌}
+use Rattle.numbers.specs.Refusal.{no_of}
+use Rattle.numbers.proofs.Refused.{refused_ne0, number_handed_on}
 use Rattle.table.specs.declared.FloatCost.{FloatCost}
-use Rattle.net.specs.Net.{Net, net_of64}
+use Rattle.net.specs.Net.{Net, float_net}
 use Rattle.net.proofs.Bounds.{whole_floats}
 use Rattle.rows.proofs.Maps.{ready_floats}
-use Rattle.dijkstra_path.specs.Promise.{Buffers, buffers_of}
+use Rattle.search.specs.Found.{number_of}
+use Rattle.dijkstra_path.specs.Promise.{Buffers, buffers_in}
 use Rattle.dijkstra_path.proofs.Refusals.{refused, Passed, passed}
-use Rattle.dijkstra_path.proofs.Answers.{room, source_below, list_sound, wipes, answer_done, answer_bad}
+use Rattle.dijkstra_path.proofs.Answers.{room, source_below, list_sound, wipes, dist_room, preds_room, answer_done, answer_bad}
 use Rattle.dijkstra_path.proofs.dijkstra_path_impl.Goals as goal
-use Rattle.dijkstra_path.proofs.dijkstra_path_impl.Goals.{Else-refused-ne0}
+use Rattle.dijkstra_path.proofs.dijkstra_path_impl.Goals.{In_ok-refusal}
+
+pub returns-in_err-refusal-clause-promise : goal.returns-in_err-refusal-clause-promise
+returns-in_err-refusal-clause-promise c =
+    let n = number_handed_on c.from_residual.result c.in_err-refusal.field-0.0 c.from_residual.ensures.1 in
+    refused _ _ _ _ _ (n ∙ c.in_err-refusal.ensures) (λ z. refused_ne0 c.in_err-refusal.field-0.0 (sym n ∙ z))
 
 -- past the refusals
-module _ (e : Else-refused-ne0) where
+module _ (e : In_ok-refusal) where
   abbrev lent : Net FloatCost
-  lent =
-      net_of64 e.args.map.bound e.args.map.count e.args.map.directed e.args.marks.now e.args.from.now e.args.to.now
-      e.args.bits.now e.args.opens.now
+  lent = float_net e.args.net
 
   abbrev buffers : Buffers
-  buffers =
-      buffers_of e.args.dist.now e.args.preds.now e.args.offsets.now e.args.heads.now e.args.weights.now e.args.peaks.now
-      e.args.words.now e.args.keys.now
+  buffers = buffers_in e.args.lists.now e.args.memory.now
 
   ok : Passed lent e.args.source buffers
-  ok = passed lent e.args.source buffers (sym e.refusal-refused.ensures ∙ e.if-refused-ne0.false)
-
-pub returns-then-refused-ne0 : goal.returns-then-refused-ne0
-returns-then-refused-ne0 c = refused _ _ _ _ _ c.refusal-refused.ensures c.if-refused-ne0.true
+  ok = passed lent e.args.source buffers (sym e.in_ok-refusal.ensures)
 
 pub most_arcs-a-requires : goal.most_arcs-a-requires
-most_arcs-a-requires c =
-    let v = c.args in
-    (whole_floats v.map.bound v.map.count v.map.directed v.marks.now v.from.now v.to.now v.bits.now v.opens.now (ok c).whole).links
+most_arcs-a-requires c = (whole_floats _ _ c.args.net.map.directed _ _ _ _ _ (ok c).whole).links
 
-pub position_csr_f64-requires : goal.position_csr_f64-requires
-position_csr_f64-requires c =
-    let v = c.args in
-    let x = ok (goal.at.position_csr_f64-requires c).Else-refused-ne0 in
-    record {
-      ready = ready_floats v.map.bound v.map.count v.map.directed v.marks.now v.from.now v.to.now v.bits.now v.opens.now x.whole x.inside;
-      enough_for = room x;
-    }
+pub position_csr_f64-requires-clause-ready : goal.position_csr_f64-requires-clause-ready
+position_csr_f64-requires-clause-ready c =
+    let x = ok (goal.at.position_csr_f64-requires-clause-ready c).In_ok-refusal in
+    let v = c.args.net in
+    ready_floats v.map.bound v.map.count v.map.directed v.marks.now v.from.now v.to.now v.costs.bits.now v.costs.opens.now x.whole x.inside
 
-pub run-number-requires : goal.run-number-requires
-run-number-requires c =
-    let x = ok (goal.at.run-number-requires c).Else-refused-ne0 in
-    record { sound = list_sound x c.position_csr_f64.ensures; source_lt_m = source_below x; enough_memory = x.memory }
+pub position_csr_f64-requires-clause-enough_for : goal.position_csr_f64-requires-clause-enough_for
+position_csr_f64-requires-clause-enough_for c = room (ok (goal.at.position_csr_f64-requires-clause-enough_for c).In_ok-refusal)
+
+pub run-found-requires-clause-fit : goal.run-found-requires-clause-fit
+run-found-requires-clause-fit c =
+    let x = ok (goal.at.run-found-requires-clause-fit c).In_ok-refusal in
+    record { rows = list_sound x c.position_csr_f64.ensures.rows; source = source_below x }
+
+pub run-found-requires-clause-enough_memory : goal.run-found-requires-clause-enough_memory
+run-found-requires-clause-enough_memory c = (ok (goal.at.run-found-requires-clause-enough_memory c).In_ok-refusal).memory
 
 pub wipe-requires : goal.wipe-requires
-wipe-requires c =
-    let y = wipes (ok (goal.at.wipe-requires c).Else-refused-ne0) c.position_csr_f64.ensures c.run-number.ensures c.most_arcs-a.ensures in
-    record { enough_lists = y.0; m_in_bounds = (y.1.peaks, y.1.words, y.1.keys) }
+wipe-requires c = (wipes (ok (goal.at.wipe-requires c).In_ok-refusal) c.position_csr_f64.ensures.rows c.limit-limit.result c.run-found.ensures.ran c.most_arcs-a.ensures).0
 
-pub returns-else-number-ne0 : goal.returns-else-number-ne0
-returns-else-number-ne0 c = answer_done (ok (goal.at.returns-else-number-ne0 c).Else-refused-ne0) c.position_csr_f64.ensures c.run-number.ensures c.most_arcs-a.ensures
-    c.wipe.ensures.weights_after c.wipe.ensures.peaks_after c.wipe.ensures.words_after c.wipe.ensures.keys_after c.if-number-ne0.false
+pub wipe_bag-requires : goal.wipe_bag-requires
+wipe_bag-requires c = (wipes (ok (goal.at.wipe_bag-requires c).In_ok-refusal) c.position_csr_f64.ensures.rows c.limit-limit.result c.run-found.ensures.ran c.most_arcs-a.ensures).1
 
-pub blank-requires : goal.blank-requires
-blank-requires c =
-    let y = wipes (ok (goal.at.blank-requires c).Else-refused-ne0) c.position_csr_f64.ensures c.run-number.ensures c.most_arcs-a.ensures in
-    (y.1.dist, y.1.preds)
+pub fill-requires : goal.fill-requires
+fill-requires c =
+    dist_room (ok (goal.at.fill-requires c).In_ok-refusal) c.position_csr_f64.ensures.rows c.limit-limit.result c.run-found.ensures.ran c.most_arcs-a.ensures c.wipe_bag.ensures.wiped
 
-pub returns-then-number-ne0 : goal.returns-then-number-ne0
-returns-then-number-ne0 c = answer_bad (ok (goal.at.returns-then-number-ne0 c).Else-refused-ne0) c.position_csr_f64.ensures c.run-number.ensures c.most_arcs-a.ensures
-    c.wipe.ensures.weights_after c.wipe.ensures.peaks_after c.wipe.ensures.words_after c.wipe.ensures.keys_after c.if-number-ne0.true c.blank.ensures.dist_after c.blank.ensures.preds_after
+pub fill-requires-in-Err : goal.fill-requires-in-Err
+fill-requires-in-Err c =
+    preds_room (ok (goal.at.fill-requires-in-Err c).In_ok-refusal) c.position_csr_f64.ensures.rows c.limit-limit.result c.run-found.ensures.ran c.most_arcs-a.ensures c.wipe_bag.ensures.wiped
+
+pub returns-in-Ok-clause-promise : goal.returns-in-Ok-clause-promise
+returns-in-Ok-clause-promise c =
+    answer_done (ok (goal.at.returns-in-Ok-clause-promise c).In_ok-refusal) c.position_csr_f64.ensures.rows c.limit-limit.result c.run-found.ensures.ran c.most_arcs-a.ensures
+    c.wipe_bag.ensures.wiped c.wipe.ensures.wiped c.limit-limit.ensures (ap number_of c.in-Ok.is)
+
+pub returns-in-Err-clause-promise : goal.returns-in-Err-clause-promise
+returns-in-Err-clause-promise c =
+    answer_bad (ok (goal.at.returns-in-Err-clause-promise c).In_ok-refusal) c.position_csr_f64.ensures.rows c.limit-limit.result c.run-found.ensures.ran c.most_arcs-a.ensures
+    c.wipe_bag.ensures.wiped c.wipe.ensures.wiped c.limit-limit.ensures (ap number_of c.in-Err.is) c.fill.ensures c.fill-in-Err.ensures (ap no_of c.into.ensures)
