@@ -31,7 +31,7 @@ class Function:
         self.crate, self.name, self.file, self.line = name.split("::")[0], name, file, line
         self.params, self.result, self.head, self.held = params, result, head, held
         self.fields = struct_fields(found, result)
-        self.written = [p for p, kind in params if LENT.search(kind) or holders & set(re.findall(r"\w+", kind))]
+        self.written = [p for p, kind in params if LENT.search(kind) or not SHARED.match(kind) and holders & set(re.findall(r"\w+", kind))]
         self.ghosts = [name for word, name, _ in clauses if word == "ghost"]
         self.requires = [text for word, _, text in clauses if word.startswith("requires")]
         self.ensures = [contract(word, text) for word, _, text in clauses if word.startswith("ensures")]
@@ -133,6 +133,7 @@ CLAUSE = re.compile(r"\s*((?:requires|ensures)\*?|ghost)(?:\s+([^\s{}:*]+):?)?\s
 FN = re.compile(r'\bpub\s+(?:[\w"]+\s+)*fn\s+(\w+)\s*(<[^>]*>)?\s*\(')
 GHOST = re.compile(r"\s*(?:pub\s+)?ghost\b")
 LENT = re.compile(r"&\s*('\w+\s+)?mut\b")
+SHARED = re.compile(r"\s*&")
 
 
 def sources(root, crate):

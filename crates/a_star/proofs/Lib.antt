@@ -6,3 +6,4 @@ pub mod Gives
 pub mod Guess
 pub mod Literal
 pub mod Small
+pub mod Pairs

@@ -1,53 +1,34 @@
--- The refusals: what the tests of the code say in their order, what a refusal leaves, and what holds where there is none.
--- The two tests of one heuristic are its range; all below m are fair exactly if each index of the map is, by induction on m. Each way through the code ends at the
--- first test that fails, those before it having passed, and there `refusal_no` computes to the number that is returned. So a number other than 0 is that of a row of
--- the table, each of which leaves every buffer, and 0 says that no test failed, which is `Fine`.
+-- The refusals: what a refusal leaves, and what holds where there is none.
+-- All heuristics below m are fair exactly if each index of the map has a fair one, by induction on m. Each way through the code ends at the first test that fails,
+-- those before it having passed, and there `refusal_no` computes to the number that is returned. So a number other than 0 is that of a row of the table, each of
+-- which leaves every buffer, and 0 says that no test failed, which is `Fine`.
 -- Assumes nothing.
-use mathlib.Core.Path.{◌≡◌, refl, sym, ap, ◌∙◌, subst}
-use mathlib.Core.Bool.{Bool, true, false, ◌&&◌}
+use mathlib.Core.Path.{◌≡◌, refl, sym, ap, ◌∙◌}
+use mathlib.Core.Bool.{Bool, true, false}
 use mathlib.Core.List.{List}
-use Prim.Native.Nat.{ℕ, zero, suc, ◌+◌, ◌-◌, ◌≤◌, ◌<◌, ◌^◌}
+use Prim.Native.Nat.{ℕ, zero, suc, ◌-◌, ◌≤◌, ◌<◌, ◌^◌}
 use native.Mathlib.Decide.{ℕ_discrete}
-use native.Mathlib.Numerals.{add-one}
 use native.Mathlib.Omega.{arith}
 use borrow.Author.Tests.{leb-true}
 use lib.Dec.{leb}
 use lib.IntN.{ℤ, pos, negsuc}
-use lib.Signed.{lt_z, le_z}
+use lib.Signed.{le_z}
 use lib.ListN.{length, get_or}
-use Rattle.whole.specs.Zed.{zed, lt_yes, lt_no, le_yes, le_no}
-use Rattle.whole.proofs.Cases.{clash, and_left, and_right, both_of}
+use Rattle.whole.specs.Zed.{zed, le_yes}
+use Rattle.whole.proofs.Cases.{clash, and_left, and_right}
 use Rattle.numbers.proofs.Numbers.{◌then◌}
 use Rattle.numbers.proofs.Numbers as numbers
-use Rattle.net.specs.Net.{Net, whole_net, inside_net, has, most_arcs_of}
+use Rattle.net.specs.Net.{Net, whole_net, most_arcs_of}
 use Rattle.rows.specs.Scratch.{has_lists}
 use Rattle.rows.specs.Kept.{EnoughLists}
 use Rattle.rows.proofs.Kept.{has_lists_lem}
 use Rattle.search.specs.Ints.{Fair}
 use Rattle.turns.specs.Firsts.{EnoughMemory}
 use Rattle.search.proofs.Lists.{has_memory_lem}
-use Rattle.a_star.specs.Promise.{Question, Buffers, long_enough, is_fair, fair_at, fair_below, fair_guess, Fine, no_path, table, Promise}
-use Rattle.a_star.specs.Parts.{question_no, refusal_no, without}
+use Rattle.a_star.specs.Promise.{Question, Buffers, long_enough, is_fair, fair_at, fair_below, Fine, no_path, table, Promise}
+use Rattle.a_star.specs.Parts.{refusal_no, without}
 
 -- ---- the heuristic
--- what the tests of one heuristic say
-pub too_low : (z : ℤ) → lt_z z (negsuc (2 ^ 42 - 1)) ≡ true → false ≡ is_fair z
-unfolding is_fair
-too_low z e = go (le_z (negsuc (2 ^ 42 - 1)) z) refl
-  where
-    go : (b : Bool) → le_z (negsuc (2 ^ 42 - 1)) z ≡ b → false ≡ (le_z (negsuc (2 ^ 42 - 1)) z && le_z z (pos (2 ^ 42)))
-    go true p = absurd (omega (arith, lt_yes z (negsuc (2 ^ 42 - 1)) e, le_yes (negsuc (2 ^ 42 - 1)) z p))
-    go false p = rw p
-
--- where the first does not refuse, the second decides
-pub not_low : (z : ℤ) → lt_z z (negsuc (2 ^ 42 - 1)) ≡ false → le_z z (pos (2 ^ 42)) ≡ is_fair z
-unfolding is_fair
-not_low z e = go (le_z (negsuc (2 ^ 42 - 1)) z) refl
-  where
-    go : (b : Bool) → le_z (negsuc (2 ^ 42 - 1)) z ≡ b → le_z z (pos (2 ^ 42)) ≡ (le_z (negsuc (2 ^ 42 - 1)) z && le_z z (pos (2 ^ 42)))
-    go true p = rw p
-    go false p = absurd (omega (arith, lt_no z (negsuc (2 ^ 42 - 1)) e, le_no (negsuc (2 ^ 42 - 1)) z p))
-
 -- a heuristic within the limits may be added
 pub fair_of : (h : List ℤ) (v : ℕ) → is_fair (get_or h v (pos 0)) ≡ true → Fair h v
 unfolding is_fair
@@ -67,10 +48,6 @@ module _ (f : ℕ → Bool) (h : List ℤ) where
   pub fair_present : (k : ℕ) → f k ≡ true → is_fair (get_or h k (pos 0)) ≡ fair_at f h k
   unfolding fair_at
   fair_present k e = rw e
-
-  -- one index more
-  pub fair_more : (k : ℕ) → fair_below f h k ≡ true → fair_at f h k ≡ true → fair_below f h (k + 1) ≡ true
-  fair_more k e g = subst (λ (j : ℕ). fair_below f h j ≡ true) (sym (add-one k)) (both_of (fair_below f h k) (fair_at f h k) e g)
 
   -- all below m: each of them
   pub fair_each : (m k : ℕ) → fair_below f h m ≡ true → k < m → fair_at f h k ≡ true
@@ -92,36 +69,6 @@ module _ (f : ℕ → Bool) (h : List ℤ) where
   -- each index that f holds for
   pub fair_where : (m k : ℕ) → fair_below f h m ≡ true → k < m → f k ≡ true → is_fair (get_or h k (pos 0)) ≡ true
   fair_where m k e l p = fair_present k p ∙ fair_each m k e l
-
--- ---- the question
-module _ (g : Net ℤ) (q : Question) where
-  -- 2
-  pub is_outside : inside_net g ≡ false → 2 ≡ question_no g q
-  unfolding question_no
-  is_outside e = rw e
-
-  module _ (i : inside_net g ≡ true) where
-    -- 3
-    pub no_source : has g q.source ≡ false → 3 ≡ question_no g q
-    unfolding question_no
-    no_source e = rw (i, e)
-
-    module _ (s : has g q.source ≡ true) where
-      -- 4
-      pub no_target : has g q.target ≡ false → 4 ≡ question_no g q
-      unfolding question_no
-      no_target e = rw (i, s, e)
-
-      module _ (t : has g q.target ≡ true) where
-        -- 5
-        pub too_far : fair_guess g q.guess ≡ false → 5 ≡ question_no g q
-        unfolding question_no
-        too_far e = rw (i, s, t, e)
-
-        -- none of them
-        pub all_good : fair_guess g q.guess ≡ true → 0 ≡ question_no g q
-        unfolding question_no
-        all_good e = rw (i, s, t, e)
 
 -- ---- the lengths
 -- each slice is long enough
@@ -150,27 +97,6 @@ guess_long m a h b e = (lengths m a h b e).guess
 
 -- ---- all of them in order
 module _ (g : Net ℤ) (q : Question) (b : Buffers) where
-  -- 1, by the map
-  pub over_limits : whole_net g ≡ false → 1 ≡ refusal_no g q b
-  unfolding refusal_no
-  over_limits e = rw e
-
-  -- the test of the lengths, which said r
-  module _ (e : whole_net g ≡ true) {a : ℕ} {r : Bool} (said : r ≡ long_enough g.bound a q.guess b) (room : a ≡ most_arcs_of g) where
-    -- what it said, with a by the map
-    gave : long_enough g.bound (most_arcs_of g) q.guess b ≡ r
-    gave = ap (λ (x : ℕ). long_enough g.bound x q.guess b) (sym room) ∙ sym said
-
-    -- 1, by a slice
-    pub too_short : r ≡ false → 1 ≡ refusal_no g q b
-    unfolding refusal_no
-    too_short f = rw (e, gave ∙ f)
-
-    -- then the question decides
-    pub asked : {k : ℕ} → r ≡ true → k ≡ question_no g q → k ≡ refusal_no g q b
-    unfolding refusal_no question_no
-    asked f p = p ∙ rw (e, gave ∙ f)
-
   -- a refusal is what the promise says
   pub refused : (k : ℕ) → k ≡ refusal_no g q b → (k ≡ 0 → ⊥) → Promise g q b b (without k)
   unfolding refusal_no

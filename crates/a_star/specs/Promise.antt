@@ -16,6 +16,12 @@ use Rattle.rows.specs.Rows.{Lists, lists_of, rows_of}
 use Rattle.rows.specs.Scratch.{has_lists, wiped}
 use Rattle.turns.specs.Memory.{Memory, memory_of}
 use Rattle.search.specs.Lists.{has_memory, wiped_memory}
+use Rattle.std.specs.Prelude.{Result as Given, Ok, Err, Option, Some, None}
+use Rattle.numbers.specs.Refusal.{no_of}
+use Rattle.numbers.specs.declared.Refusal.{Refusal}
+use Rattle.rows.specs.declared.Lists as code
+use Rattle.search.specs.declared.Memory as memory_code
+use Rattle.a_star.specs.declared.Route.{Route}
 
 -- the question: where from, where to, and a heuristic for each index
 pub record Question : Type 0 where
@@ -37,6 +43,12 @@ pub record Answer : Type 0 where
 abbrev pub answer_of : ℕ → ℤ → ℕ → Answer
 answer_of k d n = record { number = k; cost = d; length = n }
 
+-- the same, of what the code gives: a path or none, or why it is refused
+abbrev pub answer_in : Given (Option Route) Refusal → Answer
+answer_in (Ok (Some r)) = answer_of 0 r.cost r.length
+answer_in (Ok None) = answer_of 0 none_i64 0
+answer_in (Err e) = answer_of (no_of e) none_i64 0
+
 -- the lent scratch: the neighbour list and the lists that the search writes
 pub record Scratch : Type 0 where
   pub rows : Lists ℤ
@@ -54,6 +66,13 @@ scratch_of o h w d p q i k = record { rows = lists_of o h w; memory = memory_of 
 -- all of them, of the lent slices
 abbrev pub buffers_of : List ℕ → List ℕ → List ℕ → List ℤ → List ℤ → List ℕ → List ℕ → List ℕ → List ℤ → Buffers
 buffers_of l o h w d p q i k = record { path = l; scratch = scratch_of o h w d p q i k }
+
+-- both from the slices that are lent in the structs of the code
+abbrev pub scratch_in : code.Lists ℤ → memory_code.Memory ℤ → Scratch
+scratch_in l m = scratch_of l.offsets.now l.heads.now l.weights.now m.dist.now m.preds.now m.peaks.now m.words.now m.keys.now
+
+abbrev pub buffers_in : List ℕ → code.Lists ℤ → memory_code.Memory ℤ → Buffers
+buffers_in p l m = record { path = p; scratch = scratch_in l m }
 
 -- ---- the refusals
 -- is each slice as long as its part used? Of scratch that is 6m + 1 + 2a entries

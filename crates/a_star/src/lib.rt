@@ -2,45 +2,38 @@
 #![tactic(auto)]
 
 ghost use Rattle.std.specs.Prelude.{true, false, ◌≡◌, ◌≤◌, ◌<◌, pos, length, get_or};
-ghost use Rattle.table.specs.Links.{present, links, Arc};
-ghost use Rattle.clean.specs.None.{none_i64};
-ghost use Rattle.net.specs.Net.{net_of, whole_net, most_arcs};
-ghost use Rattle.a_star.specs.Promise.{Promise, question_of, answer_of, buffers_of, scratch_of};
-ghost use Rattle.a_star.specs.Promise.{long_enough, is_fair, fair_at, fair_below, at_front, wiped_all};
+ghost use Rattle.table.specs.Links.{present};
+ghost use Rattle.numbers.specs.Refusal.{number_of};
+ghost use Rattle.net.specs.Net.{int_net, ArcOf, whole_net, most_arcs_of};
+ghost use Rattle.rows.specs.Rows.{SameLists};
+ghost use Rattle.search.specs.Found.{number_of as found_no};
+ghost use Rattle.search.specs.Lists.{SameMemory};
+ghost use Rattle.a_star.specs.Promise.{Promise, question_of, answer_in, buffers_in, scratch_in};
+ghost use Rattle.a_star.specs.Promise.{long_enough, is_fair, fair_below, at_front, wiped_all};
 ghost use Rattle.a_star.specs.Trail.{trail, GoesBack};
-ghost use Rattle.a_star.specs.Parts.{question_no, refusal_no, EnoughScratch, CanSeek, Ripe, Sought, given, Told, Read, Solved};
+ghost use Rattle.a_star.specs.Parts.{question_no, refusal_no, EnoughScratch, CanSeek, Ripe, Sought, Told, Read, Solved};
 
-use table::Map;
+use net::{Ints, Lent};
+use numbers::Refusal;
+use rows::Lists;
+use search::{BadCost, Guided, Memory};
 
-// The number that comes back, the cost, and how many indices the path has.
-#[derive(Clone, Copy)]
-pub struct Found {
-    pub number: usize,
+// A path that was found: its cost, and how many indices it has.
+#[derive(Clone, Copy, Debug, PartialEq, Eq)]
+pub struct Route {
     pub cost: i64,
     pub length: usize,
 }
 
-// Is v's heuristic within -2^42 ..= 2^42?
-fn fair(guess: &[i64], v: usize) -> bool
-    requires { v < length guess.now }
-    ensures { result ≡ is_fair (get_or guess.now v (pos 0)) }
-{
-    let h = guess[v];
-    if h < -4398046511104 {
-        return false;
-    }
-    h <= 4398046511104
-}
+// How far from 0 a heuristic may be: 2^42.
+const MOST: i64 = 4398046511104;
 
-// Has the map no index i, or is its heuristic?
-fn fair_at(m: usize, marks: &[u8], guess: &[i64], i: usize) -> bool
-    requires { (m ≤ length marks.now) × (m ≤ length guess.now) × (i < m) }
-    ensures { result ≡ fair_at (present m marks.now) guess.now i }
+// Is a heuristic within -2^42 ..= 2^42?
+#[tactic(auto, unfolding(crate::specs::Promise::is_fair))]
+fn fair(h: i64) -> bool
+    ensures { result ≡ is_fair h }
 {
-    if !net::has_index(m, marks, i) {
-        return true;
-    }
-    fair(guess, i)
+    (-MOST..=MOST).contains(&h)
 }
 
 // Is the heuristic of each index that the map has?
@@ -48,156 +41,100 @@ fn all_fair(m: usize, marks: &[u8], guess: &[i64]) -> bool
     requires { (m ≤ length marks.now) × (m ≤ length guess.now) }
     ensures { result ≡ fair_below (present m marks.now) guess.now m }
 {
-    let mut i: usize = 0;
-    while i < m {
-        if !fair_at(m, marks, guess, i) {
-            return false;
-        }
-        i += 1;
-    }
-    true
+    marks[..m]
+        .iter()
+        .zip(&guess[..m])
+        .all(|(mark, h)| *mark == 0 || fair(*h))
 }
 
 // Is each slice as long as the part used?
+#[tactic(auto, unfolding(crate::specs::Promise::long_enough))]
 fn long_enough(
     m: usize,
     a: usize,
     guess: &[i64],
     path: &[u32],
-    offsets: &[usize],
-    heads: &[u16],
-    weights: &[i64],
-    dist: &[i64],
-    preds: &[u32],
-    peaks: &[usize],
-    words: &[usize],
-    keys: &[i64],
+    lists: &Lists<i64>,
+    memory: &Memory<i64>,
 ) -> bool
-    ensures { let lent = buffers_of path.now offsets.now heads.now weights.now dist.now
-        preds.now peaks.now words.now keys.now in
-        result ≡ long_enough m a guess.now lent }
+    ensures { result ≡ long_enough m a guess.now (buffers_in path.now lists.now memory.now) }
 {
-    if guess.len() < m {
-        return false;
-    }
-    if path.len() < m {
-        return false;
-    }
-    if !rows::has_lists(m, a, offsets, heads, weights) {
-        return false;
-    }
-    search::ints::has_memory(m, dist, preds, peaks, words, keys)
+    m <= guess.len() && m <= path.len() && lists.long_enough(m, a) && memory.long_enough(m)
 }
 
-// 2 where a link names an index that the map has not, 3 where the source is one,
-// 4 where the target is, 5 where a heuristic is too far from 0, else 0.
-fn question(
-    map: Map,
-    marks: &[u8],
-    from: &[u16],
-    to: &[u16],
-    costs: &[i32],
-    source: usize,
-    target: usize,
-    guess: &[i64],
-) -> usize
-    requires costs_value { whole_net (net_of map.bound map.count map.directed marks.now from.now to.now costs.now) ≡ true }
-    requires bound_in_bounds { map.bound ≤ length guess.now }
-    ensures { result ≡ question_no
-        (net_of map.bound map.count map.directed marks.now from.now to.now costs.now)
-        (question_of source target guess.now) }
+// Index where a link names an index that the map has not, Source where the source is one,
+// Target where the target is, Heuristic where a heuristic is too far from 0.
+#[tactic(auto, unfolding(crate::specs::Parts::question_no))]
+fn question(net: Lent<Ints>, source: usize, target: usize, guess: &[i64]) -> Result<(), Refusal>
+    requires whole { whole_net (int_net net) ≡ true }
+    requires guess_long { net.map.bound ≤ length guess.now }
+    ensures { number_of result ≡ question_no (int_net net.entry) (question_of source target guess.now) }
 {
-    if !net::inside(map, marks, from, to, costs) {
-        return 2;
+    if !net.inside() {
+        Err(Refusal::Index)
+    } else if !net.has(source) {
+        Err(Refusal::Source)
+    } else if !net.has(target) {
+        Err(Refusal::Target)
+    } else if !all_fair(net.map.bound, net.marks, guess) {
+        Err(Refusal::Heuristic)
+    } else {
+        Ok(())
     }
-    if !net::has_index(map.bound, marks, source) {
-        return 3;
-    }
-    if !net::has_index(map.bound, marks, target) {
-        return 4;
-    }
-    if !all_fair(map.bound, marks, guess) {
-        return 5;
-    }
-    0
 }
 
-// 1 where a limit is passed or a lent slice is too short, then 2 to 5, else 0.
+// Limit where a limit is passed or a lent slice is too short, then as above.
+#[tactic(auto, unfolding(crate::specs::Parts::refusal_no, crate::specs::Parts::question_no))]
 fn refusal(
-    map: Map,
-    marks: &[u8],
-    from: &[u16],
-    to: &[u16],
-    costs: &[i32],
+    net: Lent<Ints>,
     source: usize,
     target: usize,
     guess: &[i64],
     path: &[u32],
-    offsets: &[usize],
-    heads: &[u16],
-    weights: &[i64],
-    dist: &[i64],
-    preds: &[u32],
-    peaks: &[usize],
-    words: &[usize],
-    keys: &[i64],
-) -> usize
-    ensures { let net = net_of map.bound map.count map.directed marks.now from.now to.now
-        costs.now in
-        let lent = buffers_of path.now offsets.now heads.now weights.now dist.now
-        preds.now peaks.now words.now keys.now in
-        result ≡ refusal_no net (question_of source target guess.now) lent }
+    lists: &Lists<i64>,
+    memory: &Memory<i64>,
+) -> Result<(), Refusal>
+    ensures { number_of result ≡ refusal_no (int_net net.entry) (question_of source target guess.now)
+        (buffers_in path.now lists.now memory.now) }
 {
-    if !net::whole(map, marks, from, to, costs) {
-        return 1;
+    if !net.whole() || !long_enough(net.map.bound, net.most_arcs(), guess, path, lists, memory) {
+        Err(Refusal::Limit)
+    } else {
+        question(net, source, target, guess)
     }
-    let a = net::most_arcs(map.directed, map.count);
-    if !long_enough(
-        map.bound, a, guess, path, offsets, heads, weights, dist, preds, peaks, words, keys,
-    ) {
-        return 1;
-    }
-    question(map, marks, from, to, costs, source, target, guess)
 }
 
-// The neighbour list is made, and the search run on it. 0, or 6 where a cost below zero was met.
+// The neighbour list is made, and the search run on it.
 fn seek(
-    map: Map,
-    from: &[u16],
-    to: &[u16],
-    costs: &[i32],
+    net: Lent<Ints>,
     source: usize,
     target: usize,
     guess: &[i64],
-    offsets: &mut [usize],
-    heads: &mut [u16],
-    weights: &mut [i64],
-    dist: &mut [i64],
-    preds: &mut [u32],
-    peaks: &mut [usize],
-    words: &mut [usize],
-    keys: &mut [i64],
-) -> usize
-    requires { CanSeek map.bound map.count map.directed from.now to.now costs.now (question_of source target guess.now)
-        (scratch_of offsets.old heads.old weights.old dist.old preds.old peaks.old words.old keys.old) }
-    ensures { let lent = scratch_of offsets.old heads.old weights.old dist.old preds.old
-        peaks.old words.old keys.old in
-        let left = scratch_of offsets.new heads.new weights.new dist.new preds.new
-        peaks.new words.new keys.new in
-        Sought
-        (Arc map.directed (links map.count from.now to.now costs.now)) map.bound
-        (most_arcs map.directed map.count)
-        (question_of source target guess.now) lent left result }
+    lists: &mut Lists<i64>,
+    memory: &mut Memory<i64>,
+) -> Result<usize, BadCost>
+    requires { CanSeek net.map.bound net.map.count net.map.directed net.from.now net.to.now net.costs.costs.now
+        (question_of source target guess.now) (scratch_in lists.old memory.old) }
+    ensures sought { Sought (ArcOf (int_net net.entry)) net.entry.map.bound (most_arcs_of (int_net net.entry))
+        (question_of source target guess.now) (scratch_in lists.old memory.old) (scratch_in lists.new memory.new)
+        (found_no result) }
+    ensures same_lists { SameLists lists.old lists.new }
+    ensures same_memory { SameMemory memory.old memory.new }
 {
-    rows::position_csr(map, from, to, costs, offsets, heads, weights);
-    let found = search::ints::run(
-        map.bound, source, target, offsets, heads, weights, guess, dist, preds, peaks, words, keys,
-    );
-    found.number
+    rows::position_csr(net, lists);
+    search::run(
+        Guided { guess },
+        net.map.bound,
+        source,
+        Some(target),
+        lists,
+        memory,
+    )
 }
 
 // Writes the path from the source to v at the front of `path`:
 // goes back by at most `left` arcs, and writes on return. Gives how many indices it has.
+// It calls itself: a loop from v on meets the indices the other way round, and would have to turn the path about.
 fn write_path(preds: &[u32], source: usize, v: usize, left: usize, path: &mut [u32]) -> usize
     requires preds_len_bound { length preds.now ≤ 1024 }
     requires goes_back { GoesBack preds.now source left v }
@@ -214,168 +151,80 @@ fn write_path(preds: &[u32], source: usize, v: usize, left: usize, path: &mut [u
     n + 1
 }
 
-// Has v a distance?
-fn has_distance(dist: &[i64], v: usize) -> bool
-    requires { v < length dist.now }
-    ensures { result ≡ given dist.now v }
-{
-    clean::NONE_I64 < dist[v]
-}
-
-// v's distance.
-fn distance(dist: &[i64], v: usize) -> i64
-    requires { v < length dist.now }
-    ensures { result ≡ get_or dist.now v none_i64 }
-{
-    dist[v]
-}
-
-// The answer after a search that ended with a number: none in the path's slice, and the path if the target has a distance.
+// The answer after a search: none in the path's slice, and the path if the target has a distance.
 fn answer(
-    number: usize,
+    found: Result<usize, BadCost>,
     m: usize,
     source: usize,
     target: usize,
-    dist: &[i64],
-    preds: &[u32],
+    memory: &Memory<i64>,
     path: &mut [u32],
-) -> Found
-    requires { Told number m source target dist.now preds.now path.old }
-    ensures { Read number m source target dist.now preds.now path.old path.new
-        (answer_of result.number result.cost result.length) }
+) -> Result<Option<Route>, Refusal>
+    requires { Told (found_no found) m source target memory.now.dist.now memory.now.preds.now path.old }
+    ensures { Read (found_no found) m source target memory.now.dist.now memory.now.preds.now path.old path.new (answer_in result) }
 {
-    clean::blank_u32(path, m);
-    if number != 0 {
-        return Found {
-            number: number,
-            cost: clean::NONE_I64,
-            length: 0,
-        };
-    }
-    if !has_distance(dist, target) {
-        return Found {
-            number: 0,
-            cost: clean::NONE_I64,
-            length: 0,
-        };
-    }
-    let n = write_path(&preds[..m], source, target, m - 1, path);
-    let d = distance(dist, target);
-    Found {
-        number: 0,
-        cost: d,
-        length: n,
+    clean::fill(path, m, clean::NONE_U32);
+    found?;
+    let cost = memory.dist[target];
+    if clean::NONE_I64 < cost {
+        let length = write_path(&memory.preds[..m], source, target, m - 1, path);
+        Ok(Some(Route { cost, length }))
+    } else {
+        Ok(None)
     }
 }
 
 // Zero in the part used of each scratch slice.
-fn wipe(
-    m: usize,
-    a: usize,
-    offsets: &mut [usize],
-    heads: &mut [u16],
-    weights: &mut [i64],
-    dist: &mut [i64],
-    preds: &mut [u32],
-    peaks: &mut [usize],
-    words: &mut [usize],
-    keys: &mut [i64],
-)
-    requires { EnoughScratch m a
-        (scratch_of offsets.old heads.old weights.old dist.old preds.old peaks.old words.old keys.old) }
-    ensures { let lent = scratch_of offsets.old heads.old weights.old dist.old preds.old
-        peaks.old words.old keys.old in
-        let left = scratch_of offsets.new heads.new weights.new dist.new preds.new
-        peaks.new words.new keys.new in
-        left ≡ wiped_all m a lent }
+fn wipe(m: usize, a: usize, lists: &mut Lists<i64>, memory: &mut Memory<i64>)
+    requires { EnoughScratch m a (scratch_in lists.old memory.old) }
+    ensures wiped { scratch_in lists.new memory.new ≡ wiped_all m a (scratch_in lists.old memory.old) }
+    ensures same_lists { SameLists lists.old lists.new }
+    ensures same_memory { SameMemory memory.old memory.new }
 {
-    rows::wipe(m, a, offsets, heads, weights);
-    search::ints::wipe_memory(m, dist, preds, peaks, words, keys);
+    lists.wipe(m, a, 0);
+    memory.wipe(m, 0);
 }
 
 // The search, the answer read off its lists, and the scratch wiped.
 fn solve(
-    map: Map,
-    from: &[u16],
-    to: &[u16],
-    costs: &[i32],
+    net: Lent<Ints>,
     source: usize,
     target: usize,
     guess: &[i64],
     path: &mut [u32],
-    offsets: &mut [usize],
-    heads: &mut [u16],
-    weights: &mut [i64],
-    dist: &mut [i64],
-    preds: &mut [u32],
-    peaks: &mut [usize],
-    words: &mut [usize],
-    keys: &mut [i64],
-) -> Found
-    requires { Ripe map.bound map.count map.directed from.now to.now costs.now (question_of source target guess.now)
-        (buffers_of path.old offsets.old heads.old weights.old dist.old preds.old peaks.old words.old keys.old) }
-    ensures { let lent = buffers_of path.old offsets.old heads.old weights.old dist.old
-        preds.old peaks.old words.old keys.old in
-        let left = buffers_of path.new offsets.new heads.new weights.new dist.new
-        preds.new peaks.new words.new keys.new in
-        Solved map.bound map.count map.directed from.now to.now costs.now
-        (question_of source target guess.now) lent left
-        (answer_of result.number result.cost result.length) }
+    lists: &mut Lists<i64>,
+    memory: &mut Memory<i64>,
+) -> Result<Option<Route>, Refusal>
+    requires { Ripe net.map.bound net.map.count net.map.directed net.from.now net.to.now net.costs.costs.now
+        (question_of source target guess.now) (buffers_in path.old lists.old memory.old) }
+    ensures solved { Solved net.entry.map.bound net.entry.map.count net.entry.map.directed net.entry.from.now net.entry.to.now
+        net.entry.costs.costs.now (question_of source target guess.now)
+        (buffers_in path.old lists.old memory.old) (buffers_in path.new lists.new memory.new) (answer_in result) }
+    ensures same_lists { SameLists lists.old lists.new }
+    ensures same_memory { SameMemory memory.old memory.new }
 {
-    let number = seek(
-        map, from, to, costs, source, target, guess, offsets, heads, weights, dist, preds, peaks,
-        words, keys,
-    );
-    let m = map.bound;
-    let given = answer(number, m, source, target, dist, preds, path);
-    let a = net::most_arcs(map.directed, map.count);
-    wipe(
-        m, a, offsets, heads, weights, dist, preds, peaks, words, keys,
-    );
+    let found = seek(net, source, target, guess, lists, memory);
+    let m = net.map.bound;
+    let given = answer(found, m, source, target, memory, path);
+    wipe(m, net.most_arcs(), lists, memory);
     given
 }
 
-// The cost and the path from a source to a target. The promise is in specs/Promise.antt.
+// The cost and the path from a source to a target, or none without a walk. The promise is in specs/Promise.antt.
 pub fn a_star(
-    map: Map,
-    marks: &[u8],
-    from: &[u16],
-    to: &[u16],
-    costs: &[i32],
+    net: Lent<Ints>,
     source: usize,
     target: usize,
     guess: &[i64],
     path: &mut [u32],
-    offsets: &mut [usize],
-    heads: &mut [u16],
-    weights: &mut [i64],
-    dist: &mut [i64],
-    preds: &mut [u32],
-    peaks: &mut [usize],
-    words: &mut [usize],
-    keys: &mut [i64],
-) -> Found
-    ensures { let net = net_of map.bound map.count map.directed marks.now from.now to.now
-        costs.now in
-        let lent = buffers_of path.old offsets.old heads.old weights.old dist.old
-        preds.old peaks.old words.old keys.old in
-        let left = buffers_of path.new offsets.new heads.new weights.new dist.new
-        preds.new peaks.new words.new keys.new in
-        Promise net (question_of source target guess.now) lent left (answer_of result.number result.cost result.length) }
+    lists: &mut Lists<i64>,
+    memory: &mut Memory<i64>,
+) -> Result<Option<Route>, Refusal>
+    ensures promise { Promise (int_net net.entry) (question_of source target guess.now)
+        (buffers_in path.old lists.old memory.old) (buffers_in path.new lists.new memory.new) (answer_in result) }
+    ensures same_lists { SameLists lists.old lists.new }
+    ensures same_memory { SameMemory memory.old memory.new }
 {
-    let refused = refusal(
-        map, marks, from, to, costs, source, target, guess, path, offsets, heads, weights, dist,
-        preds, peaks, words, keys,
-    );
-    if refused != 0 {
-        return Found {
-            number: refused,
-            cost: clean::NONE_I64,
-            length: 0,
-        };
-    }
-    solve(
-        map, from, to, costs, source, target, guess, path, offsets, heads, weights, dist, preds,
-        peaks, words, keys,
-    )
+    refusal(net, source, target, guess, path, lists, memory)?;
+    solve(net, source, target, guess, path, lists, memory)
 }

@@ -27,7 +27,7 @@ use Rattle.rows.specs.Kept.{Kept}
 use Rattle.rows.proofs.Graph as graph
 use Rattle.rows.proofs.Kept.{kept_none, kept_set}
 use Rattle.bellman_ford.specs.Search.{Memory, memory_of, Wide, KeptMemory, Fit, Label, slot_of, Good, Held, Open, Safe, Pushed, full, waiting, pushed, Ring, to_do}
-use Rattle.bellman_ford.proofs.Ring.{slot_below, full_waits, push_done}
+use Rattle.bellman_ford.proofs.Waits.{slot_below, full_waits, push_done}
 use Rattle.bellman_ford.proofs.Labels.{worse_is, within, label_new, label_other, label_back, label_is, label_kinds, label_falls, better_label, lighter}
 
 -- what a push does to the marks and to the ring's slices

@@ -1,4 +1,4 @@
-pub mod Ring
+pub mod Waits
 pub mod Labels
 pub mod Arc
 pub mod Row

@@ -1,9 +1,9 @@
 -- The refusals 1 and 2 as facts, and what a call that is not refused may rest on.
 -- Assumes nothing.
-use mathlib.Core.Path.{◌≡◌, refl, sym, ap, ◌∙◌}
-use mathlib.Core.Bool.{Bool, true, false}
-use Prim.Native.Nat.{ℕ, ◌≤◌, ◌<◌}
-use borrow.Author.Tests.{leb-true, le-leb, lt-leb}
+use mathlib.Core.Path.{◌≡◌, refl}
+use mathlib.Core.Bool.{true}
+use Prim.Native.Nat.{ℕ, ◌≤◌}
+use borrow.Author.Tests.{leb-true}
 use lib.Dec.{leb}
 use lib.IntN.{ℤ}
 use lib.ListN.{length}
@@ -16,54 +16,8 @@ use Rattle.rows.proofs.Kept.{has_lists_lem}
 use Rattle.bellman_ford.specs.Promise.{Buffers, long_enough, enough, table, Promise}
 use Rattle.bellman_ford.specs.Parts.{refusal_no, EnoughScratch}
 
--- ---- the tests of the lengths, one after another
-module _ (m a : ℕ) (b : Buffers) where
-  pub long_rows : has_lists m a b.scratch.rows ≡ false → false ≡ long_enough m a b
-  unfolding long_enough
-  long_rows e = rw e
-
-  module _ (e : has_lists m a b.scratch.rows ≡ true) where
-    pub long_dist : length b.dist < m → false ≡ long_enough m a b
-    unfolding long_enough
-    long_dist h = rw (e, lt-leb m (length b.dist) h)
-
-    module _ (f : m ≤ length b.dist) where
-      pub long_queue : length b.scratch.queue < m → false ≡ long_enough m a b
-      unfolding long_enough
-      long_queue h = rw (e, le-leb m (length b.dist) f, lt-leb m (length b.scratch.queue) h)
-
-      module _ (g : m ≤ length b.scratch.queue) where
-        pub long_queued : length b.scratch.queued < m → false ≡ long_enough m a b
-        unfolding long_enough
-        long_queued h = rw (e, le-leb m (length b.dist) f, le-leb m (length b.scratch.queue) g, lt-leb m (length b.scratch.queued) h)
-
-        pub long_lengths : m ≤ length b.scratch.queued → leb m (length b.scratch.lengths) ≡ long_enough m a b
-        unfolding long_enough
-        long_lengths h = rw (e, le-leb m (length b.dist) f, le-leb m (length b.scratch.queue) g, le-leb m (length b.scratch.queued) h)
-
 -- ---- the number of the refusal
 module _ (g : Net ℤ) (b : Buffers) where
-  pub refused_limits : whole_net g ≡ false → 1 ≡ refusal_no g b
-  unfolding refusal_no
-  refused_limits e = rw e
-
-  -- r is what the test of the lengths gave
-  module _ (e : whole_net g ≡ true) {a : ℕ} {r : Bool} (t : r ≡ long_enough g.bound a b) (is : a ≡ most_arcs_of g) where
-    tested : {x : Bool} → r ≡ x → long_enough g.bound (most_arcs_of g) b ≡ x
-    tested f = sym (t ∙ ap (λ (n : ℕ). long_enough g.bound n b) is) ∙ f
-
-    pub refused_short : r ≡ false → 1 ≡ refusal_no g b
-    unfolding refusal_no
-    refused_short f = rw (e, tested f)
-
-    pub refused_outside : r ≡ true → inside_net g ≡ false → 2 ≡ refusal_no g b
-    unfolding refusal_no
-    refused_outside f i = rw (e, tested f, i)
-
-    pub refused_none : r ≡ true → inside_net g ≡ true → 0 ≡ refusal_no g b
-    unfolding refusal_no
-    refused_none f i = rw (e, tested f, i)
-
   -- a refusal is what the promise says
   pub refused : (s r : ℕ) → r ≡ refusal_no g b → (r ≡ 0 → ⊥) → Promise g s b b r
   unfolding refusal_no

@@ -1,6 +1,8 @@
 -- The loop over the row of the index that was taken: its invariant, one arc more, and how it ends.
 -- Assumes nothing.
-use mathlib.Core.Path.{◌≡◌, sym, ◌∙◌, subst}
+use mathlib.Core.Path.{◌≡◌, sym, ◌∙◌, subst, transport}
+use Rattle.std.specs.Prelude.{Result}
+use Rattle.std.specs.Result.{is_err, result_unwrap_or}
 use mathlib.Core.Bool.{Bool, true, false, true≢false}
 use Prim.Native.Nat.{ℕ, ◌+◌, ◌≤◌, ◌<◌}
 use native.Mathlib.Omega.{arith}
@@ -15,6 +17,7 @@ use Rattle.rows.specs.Rows.{Lists}
 use Rattle.rows.specs.RowArc.{RowArc}
 use Rattle.rows.proofs.Kept.{kept_none, kept_more}
 use Rattle.bellman_ford.specs.Search.{Memory, memory_of, KeptMemory, Fit, Label, Calm, Open, Safe, ArcRelaxed, kept, long, stored, to_do, RowDone}
+use Rattle.bellman_ford.specs.declared.NegativeLoop.{NegativeLoop}
 use Rattle.bellman_ford.proofs.Arc.{kept_open, long_negative, stored_open, stored_lighter, stored_kept}
 
 -- nothing changed, and one change after another
@@ -34,12 +37,14 @@ pub record Row (m p s : ℕ) (nb : Lists ℤ) (u : ℕ) (d : ℤ) (k i h n₀ n 
 pub row_first : {m p s : ℕ} {nb : Lists ℤ} {u k i h n : ℕ} {d e : ℤ} {M : Memory} → e ≡ d → Open m p s nb u d k i h n M → Row m p s nb u e k i h n n M M
 row_first {m} {p} {s} {nb} {u} {k} {i} {h} {n} {d} {e} {M} q o = subst (λ (x : ℤ). Row m p s nb u x k i h n n M M) (sym q) (record { state = o; lighter = omega arith; rest = memory_none })
 
--- the cost as the machine hands it over
-pub safe_at : {m k v h n : ℕ} {d c c' : ℤ} {M : Memory} → c' ≡ c → Safe m d k v c h n M → Safe m d k v c' h n M
-safe_at {m} {k} {v} {h} {n} {d} {M = M} e w = subst (λ (x : ℤ). Safe m d k v x h n M) (sym e) w
+-- the head and the cost as the machine hands them over, and what came back, which is x
+pub safe_at : {m k v v' h n : ℕ} {d c c' : ℤ} {M : Memory} → v' ≡ v → c' ≡ c → Safe m d k v c h n M → Safe m d k v' c' h n M
+safe_at q e w = rw (q, e) w
 
-pub relaxed_at : {m p k v h n n' : ℕ} {d c c' : ℤ} {M M' : Memory} {t : Bool} → c' ≡ c → ArcRelaxed m p d k v c' h n M M' t n' → ArcRelaxed m p d k v c h n M M' t n'
-relaxed_at {m} {p} {k} {v} {h} {n} {n'} {d} {M = M} {M' = M'} {t = t} e w = subst (λ (x : ℤ). ArcRelaxed m p d k v x h n M M' t n') e w
+pub relaxed_at : {m p k v v' h n : ℕ} {d c c' : ℤ} {M M' : Memory} {r x : Result ℕ NegativeLoop} → v' ≡ v → c' ≡ c → r ≡ x
+    → ArcRelaxed m p d k v' c' h n M M' (is_err r) (result_unwrap_or r 0) → ArcRelaxed m p d k v c h n M M' (is_err x) (result_unwrap_or x 0)
+relaxed_at {m} {p} {k} {h = h} {n} {d} {M = M} {M' = M'} q e f w =
+    transport (λ i. ArcRelaxed m p d k (q i) (e i) h n M M' (is_err (f i)) (result_unwrap_or (f i) 0)) w
 
 -- a row looked through
 open_end : {m p s : ℕ} {nb : Lists ℤ} {u k i h n : ℕ} {d : ℤ} {M : Memory} → Open m p s nb u d k i h n M → get_or nb.offsets (u + 1) 0 ≤ i → Calm m p s nb h n M
@@ -75,8 +80,8 @@ module _ {m p s : ℕ} {nb : Lists ℤ} (fit : Fit m p s nb) {u k i h n₀ n : �
     row_long (long b e f a) z = (long_negative fit r.state here b e, rw a r.rest)
     row_long (stored b e f x y w) z = absurd (clash z f)
 
-    pub row_stops : ArcRelaxed m p d k (get_or nb.heads i 0) (get_or nb.weights i (pos 0)) h n M M' t n' → t ≡ true → RowDone m p s nb h n₀ M₀ M' t n'
-    row_stops w z = let x = row_long w z in record { yes = λ e. x.0; no = λ e. absurd (clash z e); lighter = λ e. absurd (clash z e); rest = x.1 }
+    pub row_stops : {b : Bool} {n'' : ℕ} → ArcRelaxed m p d k (get_or nb.heads i 0) (get_or nb.weights i (pos 0)) h n M M' t n' → t ≡ true → b ≡ true → RowDone m p s nb h n₀ M₀ M' b n''
+    row_stops w z y = let x = row_long w z in record { yes = λ e. x.0; no = λ e. absurd (clash y e); lighter = λ e. absurd (clash y e); rest = x.1 }
 
   pub row_ends : get_or nb.offsets (u + 1) 0 ≤ i → RowDone m p s nb h n₀ M₀ M false n
   row_ends end = record { yes = λ e. absurd (true≢false (sym e)); no = λ e. open_end r.state end; lighter = λ e. r.lighter; rest = r.rest }

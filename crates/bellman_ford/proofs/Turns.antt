@@ -7,7 +7,9 @@
 -- waits, added, fall with each turn, so the search ends (Arc). At the end nothing waits, and an arc of an index that does not wait lowers no label. So each label is
 -- a least total, an index without one has no walk to it, and no closed walk in reach is below zero (walks, Labels).
 -- Assumes nothing.
-use mathlib.Core.Path.{◌≡◌, refl, sym, ◌∙◌, subst}
+use mathlib.Core.Path.{◌≡◌, refl, sym, ◌∙◌, subst, transport}
+use Rattle.std.specs.Prelude.{Result}
+use Rattle.std.specs.Result.{is_err, result_unwrap_or}
 use mathlib.Core.Bool.{Bool, true, false, true≢false}
 use mathlib.Core.List.{List, [], ◌∷◌}
 use mathlib.Core.Logic.{◌⊎◌, inl, inr}
@@ -19,6 +21,7 @@ use lib.Signed.{◌≤ℤ◌, ◌<ℤ◌}
 use lib.ListN.{length, get_or, set, length-set}
 use lib.Seq.{get_or-set_other}
 use Rattle.whole.specs.Zed.{◌⊕◌, zed}
+use Rattle.whole.proofs.Cases.{clash}
 use Rattle.clean.specs.None.{none_i64}
 use Rattle.walks.specs.Pigeon.{In}
 use Rattle.walks.specs.Walk.{NoNeg, Total}
@@ -29,7 +32,8 @@ use Rattle.rows.specs.Rows.{Lists}
 use Rattle.rows.specs.RowArc.{RowArc}
 use Rattle.rows.proofs.Kept.{kept_none, kept_set}
 use Rattle.bellman_ford.specs.Search.{Memory, memory_of, KeptMemory, Fit, Label, slot_of, Ring, Good, Calm, Open, Pushed, to_do, RowDone, Fresh, Searched}
-use Rattle.bellman_ford.proofs.Ring.{push_done, take_below, take_marked, take_ring}
+use Rattle.bellman_ford.specs.declared.NegativeLoop.{NegativeLoop}
+use Rattle.bellman_ford.proofs.Waits.{push_done, take_below, take_marked, take_ring}
 use Rattle.bellman_ford.proofs.Labels.{label_new, label_back, label_is, label_kinds}
 use Rattle.bellman_ford.proofs.Arc.{push_marks, push_kept}
 use Rattle.bellman_ford.proofs.Row.{memory_none, memory_more}
@@ -172,6 +176,11 @@ module _ {m p s : ℕ} {nb : Lists ℤ} {M : Memory} (fit : Fit m p s nb) (f : F
         let r = push_kept (omega (arith, fit.below)) (omega arith) fit.below w in
         record { dist = kept_set M.dist s (pos 0) fit.below; queue = r.0; queued = r.1; lengths = kept_none }
 
+-- what came back from the row is x
+pub done_at : {m p s h n : ℕ} {nb : Lists ℤ} {M M' : Memory} {r x : Result ℕ NegativeLoop} → r ≡ x → RowDone m p s nb h n M M' (is_err r) (result_unwrap_or r 0)
+    → RowDone m p s nb h n M M' (is_err x) (result_unwrap_or x 0)
+done_at {m} {p} {s} {h} {n} {nb} {M} {M'} f w = transport (λ i. RowDone m p s nb h n M M' (is_err (f i)) (result_unwrap_or (f i) 0)) w
+
 -- ---- the loop's invariant, a turn, and its answers
 pub record Turning (m p s : ℕ) (nb : Lists ℤ) (h n : ℕ) (M₀ M : Memory) : Type 0 where
   pub calm : Calm m p s nb h n M
@@ -204,8 +213,8 @@ module _ {m p s : ℕ} {nb : Lists ℤ} {h n : ℕ} {M₀ M : Memory} (t : Turni
     pub turn_falls : b ≡ false → to_do M' n' < to_do M n
     turn_falls e = omega (arith, r.lighter e)
 
-    pub turn_stops : {A : Memory} → KeptMemory m A M₀ → b ≡ true → Searched m s nb A M' true
-    turn_stops k e = record { yes = λ z. r.yes e; no = λ z. absurd (true≢false z); rest = memory_more k turn_rest }
+    pub turn_stops : {A : Memory} {b' : Bool} → KeptMemory m A M₀ → b ≡ true → b' ≡ true → Searched m s nb A M' b'
+    turn_stops k e f = record { yes = λ z. r.yes e; no = λ z. absurd (clash f z); rest = memory_more k turn_rest }
 
 pub turn_ends : {m p s : ℕ} {nb : Lists ℤ} {h n : ℕ} {A M₀ M : Memory} → Turning m p s nb h n M₀ M → n ≤ 0 → KeptMemory m A M₀ → Searched m s nb A M false
 turn_ends t z k = record { yes = λ e. absurd (true≢false (sym e)); no = λ e. calm_end t.calm z; rest = memory_more k t.rest }

@@ -5,6 +5,7 @@ use Rattle.numbers.specs.Tests.{first_no}
 use Rattle.walks.specs.Walk.{NoNeg, NegativeFrom, Entry}
 use Rattle.net.specs.Net.{Net, ArcOf, whole_net, inside_net, has, most_arcs_of}
 use Rattle.rows.specs.Kept.{KeptLists, EnoughLists}
+use Rattle.bellman_ford.specs.declared.Ring.{Ring}
 use Rattle.bellman_ford.specs.Promise.{Scratch, Buffers, table}
 use Rattle.bellman_ford.specs.Search.{Memory, memory_of, KeptMemory, Fresh}
 
@@ -18,6 +19,14 @@ pub record EnoughScratch (m a : ℕ) (s : Scratch) : Type 0 where
   pub queue : m ≤ length s.queue
   pub queued : m ≤ length s.queued
   pub lengths : m ≤ length s.lengths
+
+-- the ring's slices are as long as the part used
+abbrev pub EnoughRing : ℕ → Ring → Type 0
+EnoughRing m r = (m ≤ length r.queue.now) × (m ≤ length r.queued.now) × (m ≤ length r.lengths.now)
+
+-- the same slices are lent
+abbrev pub SameRing : Ring → Ring → Type 0
+SameRing r t = (t.queue.ghost_name ≡ r.queue.ghost_name) × (t.queued.ghost_name ≡ r.queued.ghost_name) × (t.lengths.ghost_name ≡ r.lengths.ghost_name)
 
 -- the lists that the search writes
 abbrev pub memory : Buffers → Memory

@@ -8,6 +8,8 @@ use Rattle.walks.specs.Walk.{NegativeFrom, Entry}
 use Rattle.net.specs.Net.{Net, ArcOf, whole_net, inside_net, has, most_arcs_of}
 use Rattle.rows.specs.Rows.{Lists, lists_of}
 use Rattle.rows.specs.Scratch.{has_lists, wiped}
+use Rattle.rows.specs.declared.Lists as code
+use Rattle.bellman_ford.specs.declared.Ring.{Ring}
 
 -- the lent scratch: the neighbour list, the ring of waiting indices, the marks of those that wait, the path lengths
 pub record Scratch : Type 0 where
@@ -28,6 +30,10 @@ pub record Buffers : Type 0 where
 -- such buffers from their slices
 abbrev pub buffers_of : List ℤ → List ℕ → List ℕ → List ℤ → List ℕ → List ℕ → List ℕ → Buffers
 buffers_of d o h w q i l = record { dist = d; scratch = scratch_of o h w q i l }
+
+-- these from the slices that are lent in the structs of the code
+abbrev pub buffers_in : List ℤ → code.Lists ℤ → Ring → Buffers
+buffers_in d l r = buffers_of d l.offsets.now l.heads.now l.weights.now r.queue.now r.queued.now r.lengths.now
 
 -- is each buffer as long as its part used? Of scratch that is 4m + 1 + 2a entries
 unfoldable pub long_enough : ℕ → ℕ → Buffers → Bool

@@ -1,52 +1,83 @@
 // Shortest walks from one source over signed costs, with a queue of the indices whose distance just fell.
 #![tactic(auto)]
 
-ghost use Rattle.std.specs.Prelude.{◌≡◌, true, false, ◌≤◌, ◌<◌, pos, length, get_or, set};
+ghost use Rattle.std.specs.Prelude.{◌≡◌, true, false, ◌&&◌, leb, ◌≤◌, ◌<◌, pos, length, get_or, set};
+ghost use Rattle.std.specs.Result.{is_err, result_unwrap_or};
 ghost use Rattle.clean.specs.Fill.{filled};
 ghost use Rattle.clean.specs.Better.{better_than};
-ghost use Rattle.rows.specs.Rows.{lists_of};
-ghost use Rattle.net.specs.Net.{net_of};
-ghost use Rattle.bellman_ford.specs.Promise.{Promise, buffers_of, scratch_of, long_enough, wiped_all};
-ghost use Rattle.bellman_ford.specs.Parts.{refusal_no, EnoughScratch, Ripe, Solved};
+ghost use Rattle.numbers.specs.Refusal.{number_of};
+ghost use Rattle.rows.specs.Rows.{lists_in, SameLists};
+ghost use Rattle.net.specs.Net.{int_net};
+ghost use Rattle.bellman_ford.specs.Promise.{Promise, buffers_in, long_enough};
+ghost use Rattle.bellman_ford.specs.Parts.{refusal_no, EnoughRing, Ripe, Solved, SameRing};
 ghost use Rattle.bellman_ford.specs.Search.{slot_of, Pushed, Safe, ArcRelaxed, Fit, Open, RowDone, Fresh, Searched, memory_of};
 
-use table::Map;
+use net::{Ints, Lent};
+use numbers::Refusal;
+use rows::Lists;
 
-// What looking at an arc or at a row leaves: was a path too long, and how many indices wait.
-#[derive(Clone, Copy)]
-struct Turn {
-    negative: bool,
-    size: usize,
+// The lent slices of a search beside the neighbour list: the ring of waiting indices, the marks of those that wait, the path lengths.
+#[derive(Drop)]
+pub struct Ring<'a> {
+    pub queue: &'a mut [usize],
+    pub queued: &'a mut [usize],
+    pub lengths: &'a mut [usize],
 }
 
+impl<'a> Ring<'a> {
+    // Is each slice as long as the part used?
+    fn long_enough(&self, m: usize) -> bool
+        ensures { result ≡ (leb m (length self.now.queue.now)
+            && (leb m (length self.now.queued.now) && leb m (length self.now.lengths.now))) }
+    {
+        m <= self.queue.len() && m <= self.queued.len() && m <= self.lengths.len()
+    }
+
+    // In the part used nothing waits, and no index has a path length.
+    fn prepare(&mut self, m: usize)
+        requires { (m ≤ length self.old.queued.now) × (m ≤ length self.old.lengths.now) }
+        ensures queued { self.new.queued.now ≡ filled m 0 self.old.queued.now }
+        ensures lengths { self.new.lengths.now ≡ filled m 0 self.old.lengths.now }
+        ensures queue { self.new.queue.now ≡ self.old.queue.now }
+        ensures same { SameRing self.old self.new }
+    {
+        clean::fill(self.queued, m, 0);
+        clean::fill(self.lengths, m, 0);
+    }
+
+    // Zero in the part used of each slice.
+    fn wipe(&mut self, m: usize)
+        requires { EnoughRing m self.old }
+        ensures queue { self.new.queue.now ≡ filled m 0 self.old.queue.now }
+        ensures queued { self.new.queued.now ≡ filled m 0 self.old.queued.now }
+        ensures lengths { self.new.lengths.now ≡ filled m 0 self.old.lengths.now }
+        ensures same { SameRing self.old self.new }
+    {
+        clean::fill(self.queue, m, 0);
+        self.prepare(m);
+    }
+}
+
+// A closed walk below zero was met: some path was too long to pass no index twice.
+#[derive(Clone, Copy)]
+struct NegativeLoop;
+
 // The place of what stands i after the first, in a ring of m places.
+#[tactic(auto, unfolding(crate::specs::Search::slot_of))]
 fn slot(m: usize, head: usize, i: usize) -> usize
     requires { (m ≤ 1024) × (head < m) × (i ≤ m) }
     ensures { result ≡ slot_of m head i }
 {
     let at = head + i;
-    if at < m {
-        return at;
-    }
-    at - m
+    if at < m { at } else { at - m }
 }
 
 // Is n better than what stands there, which may be none?
+#[tactic(auto, unfolding(clean::specs::Better::better_than))]
 fn better(n: i64, old: i64) -> bool
     ensures { result ≡ better_than n old }
 {
-    if whole::lower(clean::NONE_I64, old) {
-        return whole::lower(n, old);
-    }
-    true
-}
-
-// A distance is stored.
-fn store(dist: &mut [i64], v: usize, n: i64)
-    requires { v < length dist.old }
-    ensures { dist.new ≡ set dist.old v n }
-{
-    dist[v] = n;
+    !whole::lower(clean::NONE_I64, old) || whole::lower(n, old)
 }
 
 // The index v goes to the end of the ring, unless it waits there. Gives how many wait.
@@ -69,13 +100,10 @@ fn push(
     queued[v] = 1;
     let at = slot(m, head, size);
     queue[at] = v;
-    if old == 0 {
-        return size + 1;
-    }
-    size
+    if old == 0 { size + 1 } else { size }
 }
 
-// One arc to v, looked at from an index with the distance d and the path length k.
+// One arc to v, looked at from an index with the distance d and the path length k. Gives how many wait.
 fn relax_arc(
     m: usize,
     p: usize,
@@ -89,31 +117,21 @@ fn relax_arc(
     queue: &mut [usize],
     queued: &mut [usize],
     lengths: &mut [usize],
-) -> Turn
+) -> Result<usize, NegativeLoop>
     requires { Safe m d k v cost head size (memory_of dist.old queue.old queued.old lengths.old) }
     ensures { ArcRelaxed m p d k v cost head size
         (memory_of dist.old queue.old queued.old lengths.old)
-        (memory_of dist.new queue.new queued.new lengths.new) result.negative result.size }
+        (memory_of dist.new queue.new queued.new lengths.new) (is_err result) (result_unwrap_or result 0) }
 {
     let n = whole::plus(d, cost);
     if !better(n, dist[v]) {
-        return Turn {
-            negative: false,
-            size: size,
-        };
-    }
-    if p <= k + 1 {
-        return Turn {
-            negative: true,
-            size: size,
-        };
-    }
-    store(dist, v, n);
-    lengths[v] = k + 1;
-    let now_size = push(m, head, size, queue, queued, v);
-    Turn {
-        negative: false,
-        size: now_size,
+        Ok(size)
+    } else if p <= k + 1 {
+        Err(NegativeLoop)
+    } else {
+        dist[v] = n;
+        lengths[v] = k + 1;
+        Ok(push(m, head, size, queue, queued, v))
     }
 }
 
@@ -126,276 +144,160 @@ fn relax_row(
     u: usize,
     head: usize,
     waiting: usize,
-    offsets: &[usize],
-    heads: &[u16],
-    weights: &[i64],
+    lists: &Lists<i64>,
     dist: &mut [i64],
     queue: &mut [usize],
     queued: &mut [usize],
     lengths: &mut [usize],
-) -> Turn
-    requires fit { Fit m p source (lists_of offsets.now heads.now weights.now) }
+) -> Result<usize, NegativeLoop>
+    requires fit { Fit m p source (lists_in lists.now) }
     requires fact { Open m p source
-        (lists_of offsets.now heads.now weights.now) u
-        (get_or dist.old u (pos 0)) (get_or lengths.old u 0) (get_or offsets.now u 0) head waiting
+        (lists_in lists.now) u
+        (get_or dist.old u (pos 0)) (get_or lengths.old u 0) (get_or lists.now.offsets.now u 0) head waiting
         (memory_of dist.old queue.old queued.old lengths.old) }
     ensures { RowDone m p source
-        (lists_of offsets.now heads.now weights.now) head waiting
+        (lists_in lists.now) head waiting
         (memory_of dist.old queue.old queued.old lengths.old)
-        (memory_of dist.new queue.new queued.new lengths.new) result.negative result.size }
+        (memory_of dist.new queue.new queued.new lengths.new) (is_err result) (result_unwrap_or result 0) }
 {
     let d = dist[u];
     let k = lengths[u];
-    let end = offsets[u + 1];
     let mut size: usize = waiting;
-    let mut i: usize = offsets[u];
-    while i < end {
-        let v = heads[i] as usize;
-        let t = relax_arc(
+    let (heads, weights) = (&*lists.heads, &*lists.weights);
+    for i in lists.offsets[u]..lists.offsets[u + 1] {
+        let v = usize::from(heads[i]);
+        size = relax_arc(
             m, p, d, k, v, weights[i], head, size, dist, queue, queued, lengths,
-        );
-        if t.negative {
-            return t;
-        }
-        size = t.size;
-        i += 1;
+        )?;
     }
-    Turn {
-        negative: false,
-        size: size,
-    }
+    Ok(size)
 }
 
-// The search from a source that the map has: is a negative closed walk in its reach?
+// The search from a source that the map has. An error where a closed walk below zero is in its reach.
 fn search(
     m: usize,
     p: usize,
     source: usize,
-    offsets: &[usize],
-    heads: &[u16],
-    weights: &[i64],
+    lists: &Lists<i64>,
     dist: &mut [i64],
     queue: &mut [usize],
     queued: &mut [usize],
     lengths: &mut [usize],
-) -> bool
-    requires fit { Fit m p source (lists_of offsets.now heads.now weights.now) }
+) -> Result<(), NegativeLoop>
+    requires fit { Fit m p source (lists_in lists.now) }
     requires fresh { Fresh m (memory_of dist.old queue.old queued.old lengths.old) }
     ensures { Searched m source
-        (lists_of offsets.now heads.now weights.now)
+        (lists_in lists.now)
         (memory_of dist.old queue.old queued.old lengths.old)
-        (memory_of dist.new queue.new queued.new lengths.new) result }
+        (memory_of dist.new queue.new queued.new lengths.new) (is_err result) }
 {
-    store(dist, source, 0);
+    dist[source] = 0;
     let mut size: usize = push(m, 0, 0, queue, queued, source);
     let mut head: usize = 0;
+    // no counting loop: a turn may add indices to the ring, and it goes on until none waits
     while 0 < size {
         let u = queue[head];
         queued[u] = 0;
         head = slot(m, head, 1);
-        let t = relax_row(
+        size = relax_row(
             m,
             p,
             source,
             u,
             head,
             size - 1,
-            offsets,
-            heads,
-            weights,
+            lists,
             dist,
             queue,
             queued,
             lengths,
-        );
-        if t.negative {
-            return true;
-        }
-        size = t.size;
+        )?;
     }
-    false
+    Ok(())
 }
 
 // Is each buffer as long as the part used?
-fn long_enough(
-    m: usize,
-    a: usize,
-    dist: &[i64],
-    offsets: &[usize],
-    heads: &[u16],
-    weights: &[i64],
-    queue: &[usize],
-    queued: &[usize],
-    lengths: &[usize],
-) -> bool
-    ensures { let lent = buffers_of dist.now offsets.now heads.now weights.now queue.now
-        queued.now lengths.now in
-        result ≡ long_enough m a lent }
+#[tactic(auto, unfolding(crate::specs::Promise::long_enough))]
+fn long_enough(m: usize, a: usize, dist: &[i64], lists: &Lists<i64>, ring: &Ring) -> bool
+    ensures { result ≡ long_enough m a (buffers_in dist.now lists.now ring.now) }
 {
-    if !rows::has_lists(m, a, offsets, heads, weights) {
-        return false;
-    }
-    if dist.len() < m {
-        return false;
-    }
-    if queue.len() < m {
-        return false;
-    }
-    if queued.len() < m {
-        return false;
-    }
-    m <= lengths.len()
+    lists.long_enough(m, a) && m <= dist.len() && ring.long_enough(m)
 }
 
-// 1 where a limit is passed or a lent slice is too short, 2 where a link names an index that the map has not, else 0.
-fn refusal(
-    map: Map,
-    marks: &[u8],
-    from: &[u16],
-    to: &[u16],
-    costs: &[i32],
-    dist: &[i64],
-    offsets: &[usize],
-    heads: &[u16],
-    weights: &[i64],
-    queue: &[usize],
-    queued: &[usize],
-    lengths: &[usize],
-) -> usize
-    ensures { let net = net_of map.bound map.count map.directed marks.now from.now to.now
-        costs.now in
-        let lent = buffers_of dist.now offsets.now heads.now weights.now queue.now
-        queued.now lengths.now in
-        result ≡ refusal_no net lent }
+// Limit where a limit is passed or a lent slice is too short, Index where a link names an index that the map has not.
+#[tactic(auto, unfolding(crate::specs::Parts::refusal_no))]
+fn refusal(net: Lent<Ints>, dist: &[i64], lists: &Lists<i64>, ring: &Ring) -> Result<(), Refusal>
+    ensures { number_of result ≡ refusal_no (int_net net.entry) (buffers_in dist.now lists.now ring.now) }
 {
-    if !net::whole(map, marks, from, to, costs) {
-        return 1;
+    if !net.whole() || !long_enough(net.map.bound, net.most_arcs(), dist, lists, ring) {
+        Err(Refusal::Limit)
+    } else if !net.inside() {
+        Err(Refusal::Index)
+    } else {
+        Ok(())
     }
-    let a = net::most_arcs(map.directed, map.count);
-    if !long_enough(
-        map.bound, a, dist, offsets, heads, weights, queue, queued, lengths,
-    ) {
-        return 1;
-    }
-    if !net::inside(map, marks, from, to, costs) {
-        return 2;
-    }
-    0
 }
 
-// Zero in the part used of each scratch slice.
-fn wipe(
-    m: usize,
-    a: usize,
-    offsets: &mut [usize],
-    heads: &mut [u16],
-    weights: &mut [i64],
-    queue: &mut [usize],
-    queued: &mut [usize],
-    lengths: &mut [usize],
-)
-    requires { EnoughScratch m a (scratch_of offsets.old heads.old weights.old queue.old queued.old lengths.old) }
-    ensures { let lent = scratch_of offsets.old heads.old weights.old queue.old queued.old
-        lengths.old in
-        let left = scratch_of offsets.new heads.new weights.new queue.new queued.new
-        lengths.new in
-        left ≡ wiped_all m a lent }
-{
-    rows::wipe(m, a, offsets, heads, weights);
-    clean::clear_usize(queue, m);
-    clean::clear_usize(queued, m);
-    clean::clear_usize(lengths, m);
-}
-
-// In the part used nothing waits, and no index has a path length.
-fn prepare(m: usize, queued: &mut [usize], lengths: &mut [usize])
-    requires { (m ≤ length queued.old) × (m ≤ length lengths.old) }
-    ensures { (queued.new ≡ filled m 0 queued.old) × (lengths.new ≡ filled m 0 lengths.old) }
-{
-    clean::clear_usize(queued, m);
-    clean::clear_usize(lengths, m);
-}
-
-// The neighbour list is made, and the search run on it.
+// The neighbour list is made, and the search run on it. The same error.
 fn solve(
-    map: Map,
-    marks: &[u8],
-    from: &[u16],
-    to: &[u16],
-    costs: &[i32],
+    net: Lent<Ints>,
     source: usize,
     dist: &mut [i64],
-    offsets: &mut [usize],
-    heads: &mut [u16],
-    weights: &mut [i64],
-    queue: &mut [usize],
-    queued: &mut [usize],
-    lengths: &mut [usize],
-) -> bool
-    requires { Ripe
-        (net_of map.bound map.count map.directed marks.now from.now to.now costs.now) source
-        (buffers_of dist.old offsets.old heads.old weights.old queue.old queued.old lengths.old) }
-    ensures { let net = net_of map.bound map.count map.directed marks.now from.now to.now
-        costs.now in
-        let lent = buffers_of dist.old offsets.old heads.old weights.old queue.old
-        queued.old lengths.old in
-        let left = buffers_of dist.new offsets.new heads.new weights.new queue.new
-        queued.new lengths.new in
-        Solved net source lent left result }
+    lists: &mut Lists<i64>,
+    ring: &mut Ring,
+) -> Result<(), NegativeLoop>
+    requires { Ripe (int_net net) source (buffers_in dist.old lists.old ring.old) }
+    ensures solved { Solved (int_net net.entry) source (buffers_in dist.old lists.old ring.old)
+        (buffers_in dist.new lists.new ring.new) (is_err result) }
+    ensures same_lists { SameLists lists.old lists.new }
+    ensures same_ring { SameRing ring.old ring.new }
 {
-    let m = map.bound;
-    rows::position_csr(map, from, to, costs, offsets, heads, weights);
-    let p = net::count_present(m, marks);
+    let m = net.map.bound;
+    rows::position_csr(net, lists);
+    let p = net::count_present(m, net.marks);
     search(
-        m, p, source, offsets, heads, weights, dist, queue, queued, lengths,
+        m,
+        p,
+        source,
+        lists,
+        dist,
+        ring.queue,
+        ring.queued,
+        ring.lengths,
     )
 }
 
 // The least totals from a source. The promise is in specs/Promise.antt.
 pub fn bellman_ford(
-    map: Map,
-    marks: &[u8],
-    from: &[u16],
-    to: &[u16],
-    costs: &[i32],
+    net: Lent<Ints>,
     source: usize,
     dist: &mut [i64],
-    offsets: &mut [usize],
-    heads: &mut [u16],
-    weights: &mut [i64],
-    queue: &mut [usize],
-    queued: &mut [usize],
-    lengths: &mut [usize],
-) -> usize
-    ensures { let net = net_of map.bound map.count map.directed marks.now from.now to.now
-        costs.now in
-        let lent = buffers_of dist.old offsets.old heads.old weights.old queue.old
-        queued.old lengths.old in
-        let left = buffers_of dist.new offsets.new heads.new weights.new queue.new
-        queued.new lengths.new in
-        Promise net source lent left result }
+    lists: &mut Lists<i64>,
+    ring: &mut Ring,
+) -> Result<(), Refusal>
+    ensures promise { Promise (int_net net.entry) source (buffers_in dist.old lists.old ring.old)
+        (buffers_in dist.new lists.new ring.new) (number_of result) }
+    ensures same_lists { SameLists lists.old lists.new }
+    ensures same_ring { SameRing ring.old ring.new }
 {
-    let refused = refusal(
-        map, marks, from, to, costs, dist, offsets, heads, weights, queue, queued, lengths,
-    );
-    if refused != 0 {
-        return refused;
+    refusal(net, dist, lists, ring)?;
+    let m = net.map.bound;
+    let a = net.most_arcs();
+    clean::fill(dist, m, clean::NONE_I64);
+    if !net.has(source) {
+        lists.wipe(m, a, 0);
+        ring.wipe(m);
+        return Ok(());
     }
-    let m = map.bound;
-    let a = net::most_arcs(map.directed, map.count);
-    clean::blank_i64(dist, m);
-    if !net::has_index(m, marks, source) {
-        wipe(m, a, offsets, heads, weights, queue, queued, lengths);
-        return 0;
+    ring.prepare(m);
+    let found = solve(net, source, dist, lists, ring);
+    lists.wipe(m, a, 0);
+    ring.wipe(m);
+    match found {
+        Ok(()) => Ok(()),
+        Err(NegativeLoop) => {
+            clean::fill(dist, m, clean::NONE_I64);
+            Err(Refusal::Negative)
+        }
     }
-    prepare(m, queued, lengths);
-    let negative = solve(
-        map, marks, from, to, costs, source, dist, offsets, heads, weights, queue, queued, lengths,
-    );
-    wipe(m, a, offsets, heads, weights, queue, queued, lengths);
-    if negative {
-        clean::blank_i64(dist, m);
-        return 7;
-    }
-    0
 }

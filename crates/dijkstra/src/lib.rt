@@ -18,11 +18,11 @@ use search::Memory;
 // Source where the source is one. The f64 search has a twin: a function over either kind of costs gets no proof, since the
 // borrow checker does not cover a struct of a type parameter that is used twice.
 #[tactic(auto, unfolding(crate::specs::Parts::refusal_no, crate::specs::Promise::long_enough))]
-fn refusal<'a, 'b>(
+fn refusal(
     net: Lent<Ints>,
     source: usize,
-    lists: &Lists<'a, i64>,
-    memory: &Memory<'b, i64>,
+    lists: &Lists<i64>,
+    memory: &Memory<i64>,
 ) -> Result<(), Refusal>
     ensures { number_of result ≡ refusal_no (int_net net.entry) source (buffers_in lists.now memory.now) }
 {
@@ -39,11 +39,11 @@ fn refusal<'a, 'b>(
 }
 
 // The least totals from a source, in the distances. The promise is in specs/Promise.antt.
-pub fn dijkstra<'a, 'b>(
+pub fn dijkstra(
     net: Lent<Ints>,
     source: usize,
-    lists: &mut Lists<'a, i64>,
-    memory: &mut Memory<'b, i64>,
+    lists: &mut Lists<i64>,
+    memory: &mut Memory<i64>,
 ) -> Result<(), Refusal>
     ensures promise { Promise (int_net net.entry) source (buffers_in lists.old memory.old)
         (buffers_in lists.new memory.new) (number_of result) }

@@ -18,11 +18,11 @@ use search::{Limited, Memory};
 // Limit where a limit is passed or a lent list is too short, Index where a link names an index that the map has not, Source where the
 // source is one. A twin of dijkstra's: one over both kinds of costs gets no proof (tried), since it would use a struct of a parameter twice.
 #[tactic(auto, unfolding(crate::specs::Parts::refusal_no, crate::specs::Promise::long_enough))]
-fn refusal<'a, 'b>(
+fn refusal(
     net: Lent<Floats>,
     source: usize,
-    lists: &Lists<'a, u64>,
-    memory: &Memory<'b, u64>,
+    lists: &Lists<u64>,
+    memory: &Memory<u64>,
 ) -> Result<(), Refusal>
     ensures { number_of result ≡ refusal_no (float_net net.entry) source (buffers_in lists.now memory.now) }
 {
@@ -39,12 +39,12 @@ fn refusal<'a, 'b>(
 }
 
 // Distances and predecessors from a source over the open arcs, up to a cutoff, in the memory. The promise is in specs/Promise.antt.
-pub fn dijkstra_path_impl<'a, 'b>(
+pub fn dijkstra_path_impl(
     net: Lent<Floats>,
     source: usize,
     cutoff: Option<f64>,
-    lists: &mut Lists<'a, u64>,
-    memory: &mut Memory<'b, u64>,
+    lists: &mut Lists<u64>,
+    memory: &mut Memory<u64>,
 ) -> Result<(), Refusal>
     ensures promise { Promise (float_net net.entry) source cutoff (buffers_in lists.old memory.old)
         (buffers_in lists.new memory.new) (number_of result) }
@@ -54,7 +54,7 @@ pub fn dijkstra_path_impl<'a, 'b>(
     refusal(net, source, lists, memory)?;
     let m = net.map.bound;
     let a = net.most_arcs();
-    rows::position_csr_f64(net, lists);
+    rows::position_csr(net, lists);
     let limit = float::limit(cutoff);
     let found = search::run(Limited { limit }, m, source, None, lists, memory);
     lists.wipe(m, a, 0);
@@ -70,12 +70,12 @@ pub fn dijkstra_path_impl<'a, 'b>(
 }
 
 // The same under the name that the open links alone are fed to: closed ones are passed over here.
-pub fn dijkstra_path_f64<'a, 'b>(
+pub fn dijkstra_path_f64(
     net: Lent<Floats>,
     source: usize,
     cutoff: Option<f64>,
-    lists: &mut Lists<'a, u64>,
-    memory: &mut Memory<'b, u64>,
+    lists: &mut Lists<u64>,
+    memory: &mut Memory<u64>,
 ) -> Result<(), Refusal>
     ensures promise { Promise (float_net net.entry) source cutoff (buffers_in lists.old memory.old)
         (buffers_in lists.new memory.new) (number_of result) }

@@ -18,18 +18,19 @@ ghost use Rattle.hops.specs.Promise as hops;
 ghost use Rattle.page.specs.Promise as page_check;
 ghost use Rattle.dimetumble.specs.Flags.{is_set, limit_of};
 
-use float::Cutoff;
+use bellman_ford::Ring;
+use hops::{Scratch, Table};
+use net::{Floats, Ints, Lent};
+use rows::Lists;
+use search::Memory;
 use table::Map;
 
 // The cutoff: none where the flag is 0.
 #[tactic(auto, unfolding(crate::specs::Flags::limit_of))]
-fn limit(capped: u8, cutoff: f64) -> Cutoff
+fn limit(capped: u8, cutoff: f64) -> Option<f64>
     ensures { result ≡ limit_of capped cutoff }
 {
-    if capped != 0 {
-        return Cutoff::At(cutoff);
-    }
-    Cutoff::None
+    if capped != 0 { Some(cutoff) } else { None }
 }
 
 // Put a record into an integer map.
@@ -49,22 +50,14 @@ pub fn dimetumble_put(
         ≡ put_ints (is_set directed) bound marks.now (link_of a b cost) count.old from.old to.old
         costs.old }
 {
-    let done = table::put(
-        Map {
-            bound: bound,
-            count: *count,
-            directed: directed != 0,
-        },
-        marks,
-        from,
-        to,
-        costs,
-        a,
-        b,
-        cost,
-    );
-    *count = done.count;
-    done.refusal
+    let map = Map {
+        bound,
+        count: *count,
+        directed: directed != 0,
+    };
+    let done = table::put(map, marks, from, to, costs, a, b, cost);
+    *count = done.unwrap_or(*count);
+    numbers::number(done)
 }
 
 // Put a record into an f64 map.
@@ -86,28 +79,18 @@ pub fn dimetumble_put_f64(
         ≡ put_floats (is_set directed) bound marks.now (link_of a b (raw_cost pattern opened)) count.old
         from.old to.old bits.old opens.old }
 {
-    let done = table::put_f64(
-        Map {
-            bound: bound,
-            count: *count,
-            directed: directed != 0,
-        },
-        marks,
-        from,
-        to,
-        bits,
-        opens,
-        a,
-        b,
-        pattern,
-        opened,
-    );
-    *count = done.count;
-    done.refusal
+    let map = Map {
+        bound,
+        count: *count,
+        directed: directed != 0,
+    };
+    let done = table::put_f64(map, marks, from, to, bits, opens, a, b, pattern, opened);
+    *count = done.unwrap_or(*count);
+    numbers::number(done)
 }
 
 // The least totals from a source, of costs that are not below zero.
-pub fn dimetumble_dijkstra(
+pub fn dimetumble_dijkstra<'a>(
     bound: usize,
     count: usize,
     directed: u8,
@@ -116,14 +99,14 @@ pub fn dimetumble_dijkstra(
     to: &[u16],
     costs: &[i32],
     source: usize,
-    dist: &mut [i64],
-    offsets: &mut [usize],
-    heads: &mut [u16],
-    weights: &mut [i64],
-    preds: &mut [u32],
-    peaks: &mut [usize],
-    words: &mut [usize],
-    keys: &mut [i64],
+    dist: &'a mut [i64],
+    offsets: &'a mut [usize],
+    heads: &'a mut [u16],
+    weights: &'a mut [i64],
+    preds: &'a mut [u32],
+    peaks: &'a mut [usize],
+    words: &'a mut [usize],
+    keys: &'a mut [i64],
 ) -> usize
     ensures { dijkstra.Promise
         (net_of bound count (is_set directed) marks.now from.now to.now costs.now) source
@@ -132,30 +115,35 @@ pub fn dimetumble_dijkstra(
         (dijkstra.buffers_of dist.new offsets.new heads.new weights.new preds.new
         peaks.new words.new keys.new) result }
 {
-    dijkstra::dijkstra(
-        Map {
-            bound: bound,
-            count: count,
-            directed: directed != 0,
-        },
+    let map = Map {
+        bound,
+        count,
+        directed: directed != 0,
+    };
+    let net = Lent {
+        map,
         marks,
         from,
         to,
-        costs,
-        source,
-        dist,
+        costs: Ints { costs },
+    };
+    let mut lists = Lists {
         offsets,
         heads,
         weights,
+    };
+    let mut memory = Memory {
+        dist,
         preds,
         peaks,
         words,
         keys,
-    )
+    };
+    numbers::number(dijkstra::dijkstra(net, source, &mut lists, &mut memory))
 }
 
 // The cost and the path from a source to a target, by a heuristic.
-pub fn dimetumble_a_star(
+pub fn dimetumble_a_star<'a>(
     bound: usize,
     count: usize,
     directed: u8,
@@ -168,15 +156,15 @@ pub fn dimetumble_a_star(
     guess: &[i64],
     cost: &mut i64,
     length: &mut usize,
-    path: &mut [u32],
-    offsets: &mut [usize],
-    heads: &mut [u16],
-    weights: &mut [i64],
-    dist: &mut [i64],
-    preds: &mut [u32],
-    peaks: &mut [usize],
-    words: &mut [usize],
-    keys: &mut [i64],
+    path: &'a mut [u32],
+    offsets: &'a mut [usize],
+    heads: &'a mut [u16],
+    weights: &'a mut [i64],
+    dist: &'a mut [i64],
+    preds: &'a mut [u32],
+    peaks: &'a mut [usize],
+    words: &'a mut [usize],
+    keys: &'a mut [i64],
 ) -> usize
     ensures { a_star.Promise
         (net_of bound count (is_set directed) marks.now from.now to.now costs.now)
@@ -187,37 +175,39 @@ pub fn dimetumble_a_star(
         preds.new peaks.new words.new keys.new)
         (a_star.answer_of result cost.new length.new) }
 {
-    let reached = a_star::a_star(
-        Map {
-            bound: bound,
-            count: count,
-            directed: directed != 0,
-        },
+    let map = Map {
+        bound,
+        count,
+        directed: directed != 0,
+    };
+    let net = Lent {
+        map,
         marks,
         from,
         to,
-        costs,
-        source,
-        target,
-        guess,
-        path,
+        costs: Ints { costs },
+    };
+    let mut lists = Lists {
         offsets,
         heads,
         weights,
+    };
+    let mut memory = Memory {
         dist,
         preds,
         peaks,
         words,
         keys,
-    );
-    let found = reached.cost;
-    *cost = found;
-    *length = reached.length;
-    reached.number
+    };
+    let reached = a_star::a_star(net, source, target, guess, path, &mut lists, &mut memory);
+    let route = reached.unwrap_or(None);
+    *cost = route.map_or(clean::NONE_I64, |r| r.cost);
+    *length = route.map_or(0, |r| r.length);
+    numbers::number(reached)
 }
 
 // Distances and predecessors from a source over the open arcs, up to a cutoff.
-pub fn dimetumble_dijkstra_path_impl(
+pub fn dimetumble_dijkstra_path_impl<'a>(
     bound: usize,
     count: usize,
     directed: u8,
@@ -229,14 +219,14 @@ pub fn dimetumble_dijkstra_path_impl(
     source: usize,
     capped: u8,
     cutoff: f64,
-    dist: &mut [u64],
-    preds: &mut [u32],
-    offsets: &mut [usize],
-    heads: &mut [u16],
-    weights: &mut [u64],
-    peaks: &mut [usize],
-    words: &mut [usize],
-    keys: &mut [u64],
+    dist: &'a mut [u64],
+    preds: &'a mut [u32],
+    offsets: &'a mut [usize],
+    heads: &'a mut [u16],
+    weights: &'a mut [u64],
+    peaks: &'a mut [usize],
+    words: &'a mut [usize],
+    keys: &'a mut [u64],
 ) -> usize
     ensures { dijkstra_path.Promise
         (net_of64 bound count (is_set directed) marks.now from.now to.now bits.now
@@ -246,32 +236,36 @@ pub fn dimetumble_dijkstra_path_impl(
         (dijkstra_path.buffers_of dist.new preds.new offsets.new heads.new weights.new
         peaks.new words.new keys.new) result }
 {
-    dijkstra_path::dijkstra_path_impl(
-        Map {
-            bound: bound,
-            count: count,
-            directed: directed != 0,
-        },
+    let map = Map {
+        bound,
+        count,
+        directed: directed != 0,
+    };
+    let net = Lent {
+        map,
         marks,
         from,
         to,
-        bits,
-        opens,
-        source,
-        limit(capped, cutoff),
-        dist,
-        preds,
+        costs: Floats { bits, opens },
+    };
+    let mut lists = Lists {
         offsets,
         heads,
         weights,
+    };
+    let mut memory = Memory {
+        dist,
+        preds,
         peaks,
         words,
         keys,
-    )
+    };
+    let cutoff = limit(capped, cutoff);
+    numbers::number(dijkstra_path::dijkstra_path_impl(net, source, cutoff, &mut lists, &mut memory))
 }
 
 // The same under its second name: the two questions have one promise.
-pub fn dimetumble_dijkstra_path_f64(
+pub fn dimetumble_dijkstra_path_f64<'a>(
     bound: usize,
     count: usize,
     directed: u8,
@@ -283,14 +277,14 @@ pub fn dimetumble_dijkstra_path_f64(
     source: usize,
     capped: u8,
     cutoff: f64,
-    dist: &mut [u64],
-    preds: &mut [u32],
-    offsets: &mut [usize],
-    heads: &mut [u16],
-    weights: &mut [u64],
-    peaks: &mut [usize],
-    words: &mut [usize],
-    keys: &mut [u64],
+    dist: &'a mut [u64],
+    preds: &'a mut [u32],
+    offsets: &'a mut [usize],
+    heads: &'a mut [u16],
+    weights: &'a mut [u64],
+    peaks: &'a mut [usize],
+    words: &'a mut [usize],
+    keys: &'a mut [u64],
 ) -> usize
     ensures { dijkstra_path.Promise
         (net_of64 bound count (is_set directed) marks.now from.now to.now bits.now
@@ -307,7 +301,7 @@ pub fn dimetumble_dijkstra_path_f64(
 }
 
 // The least totals from a source, of signed costs.
-pub fn dimetumble_bellman_ford(
+pub fn dimetumble_bellman_ford<'a>(
     bound: usize,
     count: usize,
     directed: u8,
@@ -316,13 +310,13 @@ pub fn dimetumble_bellman_ford(
     to: &[u16],
     costs: &[i32],
     source: usize,
-    dist: &mut [i64],
-    offsets: &mut [usize],
-    heads: &mut [u16],
-    weights: &mut [i64],
-    queue: &mut [usize],
-    queued: &mut [usize],
-    lengths: &mut [usize],
+    dist: &'a mut [i64],
+    offsets: &'a mut [usize],
+    heads: &'a mut [u16],
+    weights: &'a mut [i64],
+    queue: &'a mut [usize],
+    queued: &'a mut [usize],
+    lengths: &'a mut [usize],
 ) -> usize
     ensures { bellman_ford.Promise
         (net_of bound count (is_set directed) marks.now from.now to.now costs.now) source
@@ -331,25 +325,29 @@ pub fn dimetumble_bellman_ford(
         (bellman_ford.buffers_of dist.new offsets.new heads.new weights.new queue.new
         queued.new lengths.new) result }
 {
-    bellman_ford::bellman_ford(
-        Map {
-            bound: bound,
-            count: count,
-            directed: directed != 0,
-        },
+    let map = Map {
+        bound,
+        count,
+        directed: directed != 0,
+    };
+    let net = Lent {
+        map,
         marks,
         from,
         to,
-        costs,
-        source,
-        dist,
+        costs: Ints { costs },
+    };
+    let mut lists = Lists {
         offsets,
         heads,
         weights,
+    };
+    let mut ring = Ring {
         queue,
         queued,
         lengths,
-    )
+    };
+    numbers::number(bellman_ford::bellman_ford(net, source, dist, &mut lists, &mut ring))
 }
 
 // The least totals between all pairs of nodes.
@@ -368,23 +366,23 @@ pub fn dimetumble_floyd_warshall(
         (net_of bound count (is_set directed) marks.now from.now to.now costs.now)
         matrix.old ranks.old matrix.new ranks.new result }
 {
-    floyd_warshall::floyd_warshall(
-        Map {
-            bound: bound,
-            count: count,
-            directed: directed != 0,
-        },
+    let map = Map {
+        bound,
+        count,
+        directed: directed != 0,
+    };
+    let net = Lent {
+        map,
         marks,
         from,
         to,
-        costs,
-        matrix,
-        ranks,
-    )
+        costs: Ints { costs },
+    };
+    numbers::number(floyd_warshall::floyd_warshall(net, matrix, ranks))
 }
 
 // The least totals between all pairs of nodes, by potentials.
-pub fn dimetumble_johnson(
+pub fn dimetumble_johnson<'a>(
     bound: usize,
     count: usize,
     directed: u8,
@@ -392,16 +390,16 @@ pub fn dimetumble_johnson(
     from: &[u16],
     to: &[u16],
     costs: &[i32],
-    matrix: &mut [i64],
-    offsets: &mut [usize],
-    heads: &mut [u16],
-    weights: &mut [i64],
-    heights: &mut [i64],
-    dist: &mut [i64],
-    preds: &mut [u32],
-    peaks: &mut [usize],
-    words: &mut [usize],
-    keys: &mut [i64],
+    matrix: &'a mut [i64],
+    offsets: &'a mut [usize],
+    heads: &'a mut [u16],
+    weights: &'a mut [i64],
+    heights: &'a mut [i64],
+    dist: &'a mut [i64],
+    preds: &'a mut [u32],
+    peaks: &'a mut [usize],
+    words: &'a mut [usize],
+    keys: &'a mut [i64],
 ) -> usize
     ensures { johnson.Promise
         (net_of bound count (is_set directed) marks.now from.now to.now costs.now)
@@ -411,31 +409,35 @@ pub fn dimetumble_johnson(
         (johnson.scratch_of offsets.new heads.new weights.new heights.new dist.new
         preds.new peaks.new words.new keys.new) result }
 {
-    johnson::johnson(
-        Map {
-            bound: bound,
-            count: count,
-            directed: directed != 0,
-        },
+    let map = Map {
+        bound,
+        count,
+        directed: directed != 0,
+    };
+    let net = Lent {
+        map,
         marks,
         from,
         to,
-        costs,
-        matrix,
+        costs: Ints { costs },
+    };
+    let mut lists = Lists {
         offsets,
         heads,
         weights,
-        heights,
+    };
+    let mut memory = Memory {
         dist,
         preds,
         peaks,
         words,
         keys,
-    )
+    };
+    numbers::number(johnson::johnson(net, matrix, &mut lists, heights, &mut memory))
 }
 
 // The nodes and the least numbers of arcs between all pairs of them, of an integer map.
-pub fn dimetumble_hops(
+pub fn dimetumble_hops<'a>(
     bound: usize,
     count: usize,
     directed: u8,
@@ -444,12 +446,12 @@ pub fn dimetumble_hops(
     to: &[u16],
     costs: &[i32],
     listed: &mut usize,
-    nodes: &mut [u32],
-    matrix: &mut [u32],
-    offsets: &mut [usize],
-    heads: &mut [u16],
-    labels: &mut [usize],
-    queue: &mut [usize],
+    nodes: &'a mut [u32],
+    matrix: &'a mut [u32],
+    offsets: &'a mut [usize],
+    heads: &'a mut [u16],
+    labels: &'a mut [usize],
+    queue: &'a mut [usize],
 ) -> usize
     ensures { hops.Promise
         (net_of bound count (is_set directed) marks.now from.now to.now costs.now)
@@ -458,29 +460,32 @@ pub fn dimetumble_hops(
         (hops.buffers_of nodes.new matrix.new offsets.new heads.new labels.new
         queue.new) result listed.new }
 {
-    let counted = hops::hops(
-        Map {
-            bound: bound,
-            count: count,
-            directed: directed != 0,
-        },
+    let map = Map {
+        bound,
+        count,
+        directed: directed != 0,
+    };
+    let net = Lent {
+        map,
         marks,
         from,
         to,
-        costs,
-        nodes,
-        matrix,
+        costs: Ints { costs },
+    };
+    let mut table = Table { nodes, matrix };
+    let mut scratch = Scratch {
         offsets,
         heads,
         labels,
         queue,
-    );
-    *listed = counted.count;
-    counted.number
+    };
+    let counted = hops::hops(net, &mut table, &mut scratch);
+    *listed = counted.unwrap_or(0);
+    numbers::number(counted)
 }
 
 // The nodes and the least numbers of arcs between all pairs of them, of an f64 map.
-pub fn dimetumble_hops_f64(
+pub fn dimetumble_hops_f64<'a>(
     bound: usize,
     count: usize,
     directed: u8,
@@ -490,12 +495,12 @@ pub fn dimetumble_hops_f64(
     bits: &[u64],
     opens: &[u8],
     listed: &mut usize,
-    nodes: &mut [u32],
-    matrix: &mut [u32],
-    offsets: &mut [usize],
-    heads: &mut [u16],
-    labels: &mut [usize],
-    queue: &mut [usize],
+    nodes: &'a mut [u32],
+    matrix: &'a mut [u32],
+    offsets: &'a mut [usize],
+    heads: &'a mut [u16],
+    labels: &'a mut [usize],
+    queue: &'a mut [usize],
 ) -> usize
     ensures { hops.Promise
         (net_of64 bound count (is_set directed) marks.now from.now to.now bits.now
@@ -505,26 +510,28 @@ pub fn dimetumble_hops_f64(
         (hops.buffers_of nodes.new matrix.new offsets.new heads.new labels.new
         queue.new) result listed.new }
 {
-    let counted = hops::hops_f64(
-        Map {
-            bound: bound,
-            count: count,
-            directed: directed != 0,
-        },
+    let map = Map {
+        bound,
+        count,
+        directed: directed != 0,
+    };
+    let net = Lent {
+        map,
         marks,
         from,
         to,
-        bits,
-        opens,
-        nodes,
-        matrix,
+        costs: Floats { bits, opens },
+    };
+    let mut table = Table { nodes, matrix };
+    let mut scratch = Scratch {
         offsets,
         heads,
         labels,
         queue,
-    );
-    *listed = counted.count;
-    counted.number
+    };
+    let counted = hops::hops(net, &mut table, &mut scratch);
+    *listed = counted.unwrap_or(0);
+    numbers::number(counted)
 }
 
 // Are the distances of a page those that the arcs allow?
@@ -546,19 +553,19 @@ pub fn dimetumble_page(
         (page_check.answer_of result (is_set yes.new)))
         × (yes.new ≤ 1) }
 {
-    let checked = page::check(
-        Map {
-            bound: bound,
-            count: count,
-            directed: directed != 0,
-        },
+    let map = Map {
+        bound,
+        count,
+        directed: directed != 0,
+    };
+    let net = Lent {
+        map,
         marks,
         from,
         to,
-        costs,
-        source,
-        page,
-    );
-    *yes = checked.yes as u8;
-    checked.number
+        costs: Ints { costs },
+    };
+    let checked = page::check(net, source, page);
+    *yes = u8::from(checked.unwrap_or(false));
+    numbers::number(checked)
 }

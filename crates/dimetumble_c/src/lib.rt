@@ -64,7 +64,7 @@ pub extern "C" fn dimetumble_put_f64(
 
 // The least totals from a source, of costs that are not below zero.
 #[unsafe(no_mangle)]
-pub extern "C" fn dimetumble_dijkstra(
+pub extern "C" fn dimetumble_dijkstra<'a>(
     bound: usize,
     count: usize,
     directed: u8,
@@ -73,14 +73,14 @@ pub extern "C" fn dimetumble_dijkstra(
     to: &[u16],
     costs: &[i32],
     source: usize,
-    dist: &mut [i64],
-    offsets: &mut [usize],
-    heads: &mut [u16],
-    weights: &mut [i64],
-    preds: &mut [u32],
-    peaks: &mut [usize],
-    words: &mut [usize],
-    keys: &mut [i64],
+    dist: &'a mut [i64],
+    offsets: &'a mut [usize],
+    heads: &'a mut [u16],
+    weights: &'a mut [i64],
+    preds: &'a mut [u32],
+    peaks: &'a mut [usize],
+    words: &'a mut [usize],
+    keys: &'a mut [i64],
 ) -> usize
     ensures { dijkstra.Promise
         (net_of bound count (is_set directed) marks.now from.now to.now costs.now) source
@@ -97,7 +97,7 @@ pub extern "C" fn dimetumble_dijkstra(
 
 // The cost and the path from a source to a target, by a heuristic.
 #[unsafe(no_mangle)]
-pub extern "C" fn dimetumble_a_star(
+pub extern "C" fn dimetumble_a_star<'a>(
     bound: usize,
     count: usize,
     directed: u8,
@@ -110,15 +110,15 @@ pub extern "C" fn dimetumble_a_star(
     guess: &[i64],
     cost: &mut i64,
     length: &mut usize,
-    path: &mut [u32],
-    offsets: &mut [usize],
-    heads: &mut [u16],
-    weights: &mut [i64],
-    dist: &mut [i64],
-    preds: &mut [u32],
-    peaks: &mut [usize],
-    words: &mut [usize],
-    keys: &mut [i64],
+    path: &'a mut [u32],
+    offsets: &'a mut [usize],
+    heads: &'a mut [u16],
+    weights: &'a mut [i64],
+    dist: &'a mut [i64],
+    preds: &'a mut [u32],
+    peaks: &'a mut [usize],
+    words: &'a mut [usize],
+    keys: &'a mut [i64],
 ) -> usize
     ensures { a_star.Promise
         (net_of bound count (is_set directed) marks.now from.now to.now costs.now)
@@ -137,7 +137,7 @@ pub extern "C" fn dimetumble_a_star(
 
 // Distances and predecessors from a source over the open arcs, up to a cutoff.
 #[unsafe(no_mangle)]
-pub extern "C" fn dimetumble_dijkstra_path_impl(
+pub extern "C" fn dimetumble_dijkstra_path_impl<'a>(
     bound: usize,
     count: usize,
     directed: u8,
@@ -149,14 +149,14 @@ pub extern "C" fn dimetumble_dijkstra_path_impl(
     source: usize,
     capped: u8,
     cutoff: f64,
-    dist: &mut [u64],
-    preds: &mut [u32],
-    offsets: &mut [usize],
-    heads: &mut [u16],
-    weights: &mut [u64],
-    peaks: &mut [usize],
-    words: &mut [usize],
-    keys: &mut [u64],
+    dist: &'a mut [u64],
+    preds: &'a mut [u32],
+    offsets: &'a mut [usize],
+    heads: &'a mut [u16],
+    weights: &'a mut [u64],
+    peaks: &'a mut [usize],
+    words: &'a mut [usize],
+    keys: &'a mut [u64],
 ) -> usize
     ensures { dijkstra_path.Promise
         (net_of64 bound count (is_set directed) marks.now from.now to.now bits.now
@@ -174,7 +174,7 @@ pub extern "C" fn dimetumble_dijkstra_path_impl(
 
 // The same under its second name: the two questions have one promise.
 #[unsafe(no_mangle)]
-pub extern "C" fn dimetumble_dijkstra_path_f64(
+pub extern "C" fn dimetumble_dijkstra_path_f64<'a>(
     bound: usize,
     count: usize,
     directed: u8,
@@ -186,14 +186,14 @@ pub extern "C" fn dimetumble_dijkstra_path_f64(
     source: usize,
     capped: u8,
     cutoff: f64,
-    dist: &mut [u64],
-    preds: &mut [u32],
-    offsets: &mut [usize],
-    heads: &mut [u16],
-    weights: &mut [u64],
-    peaks: &mut [usize],
-    words: &mut [usize],
-    keys: &mut [u64],
+    dist: &'a mut [u64],
+    preds: &'a mut [u32],
+    offsets: &'a mut [usize],
+    heads: &'a mut [u16],
+    weights: &'a mut [u64],
+    peaks: &'a mut [usize],
+    words: &'a mut [usize],
+    keys: &'a mut [u64],
 ) -> usize
     ensures { dijkstra_path.Promise
         (net_of64 bound count (is_set directed) marks.now from.now to.now bits.now
@@ -211,7 +211,7 @@ pub extern "C" fn dimetumble_dijkstra_path_f64(
 
 // The least totals from a source, of signed costs.
 #[unsafe(no_mangle)]
-pub extern "C" fn dimetumble_bellman_ford(
+pub extern "C" fn dimetumble_bellman_ford<'a>(
     bound: usize,
     count: usize,
     directed: u8,
@@ -220,13 +220,13 @@ pub extern "C" fn dimetumble_bellman_ford(
     to: &[u16],
     costs: &[i32],
     source: usize,
-    dist: &mut [i64],
-    offsets: &mut [usize],
-    heads: &mut [u16],
-    weights: &mut [i64],
-    queue: &mut [usize],
-    queued: &mut [usize],
-    lengths: &mut [usize],
+    dist: &'a mut [i64],
+    offsets: &'a mut [usize],
+    heads: &'a mut [u16],
+    weights: &'a mut [i64],
+    queue: &'a mut [usize],
+    queued: &'a mut [usize],
+    lengths: &'a mut [usize],
 ) -> usize
     ensures { bellman_ford.Promise
         (net_of bound count (is_set directed) marks.now from.now to.now costs.now) source
@@ -265,7 +265,7 @@ pub extern "C" fn dimetumble_floyd_warshall(
 
 // The least totals between all pairs of nodes, by potentials.
 #[unsafe(no_mangle)]
-pub extern "C" fn dimetumble_johnson(
+pub extern "C" fn dimetumble_johnson<'a>(
     bound: usize,
     count: usize,
     directed: u8,
@@ -273,16 +273,16 @@ pub extern "C" fn dimetumble_johnson(
     from: &[u16],
     to: &[u16],
     costs: &[i32],
-    matrix: &mut [i64],
-    offsets: &mut [usize],
-    heads: &mut [u16],
-    weights: &mut [i64],
-    heights: &mut [i64],
-    dist: &mut [i64],
-    preds: &mut [u32],
-    peaks: &mut [usize],
-    words: &mut [usize],
-    keys: &mut [i64],
+    matrix: &'a mut [i64],
+    offsets: &'a mut [usize],
+    heads: &'a mut [u16],
+    weights: &'a mut [i64],
+    heights: &'a mut [i64],
+    dist: &'a mut [i64],
+    preds: &'a mut [u32],
+    peaks: &'a mut [usize],
+    words: &'a mut [usize],
+    keys: &'a mut [i64],
 ) -> usize
     ensures { johnson.Promise
         (net_of bound count (is_set directed) marks.now from.now to.now costs.now)
@@ -300,7 +300,7 @@ pub extern "C" fn dimetumble_johnson(
 
 // The nodes and the least numbers of arcs between all pairs of them, of an integer map.
 #[unsafe(no_mangle)]
-pub extern "C" fn dimetumble_hops(
+pub extern "C" fn dimetumble_hops<'a>(
     bound: usize,
     count: usize,
     directed: u8,
@@ -309,12 +309,12 @@ pub extern "C" fn dimetumble_hops(
     to: &[u16],
     costs: &[i32],
     listed: &mut usize,
-    nodes: &mut [u32],
-    matrix: &mut [u32],
-    offsets: &mut [usize],
-    heads: &mut [u16],
-    labels: &mut [usize],
-    queue: &mut [usize],
+    nodes: &'a mut [u32],
+    matrix: &'a mut [u32],
+    offsets: &'a mut [usize],
+    heads: &'a mut [u16],
+    labels: &'a mut [usize],
+    queue: &'a mut [usize],
 ) -> usize
     ensures { hops.Promise
         (net_of bound count (is_set directed) marks.now from.now to.now costs.now)
@@ -331,7 +331,7 @@ pub extern "C" fn dimetumble_hops(
 
 // The nodes and the least numbers of arcs between all pairs of them, of an f64 map.
 #[unsafe(no_mangle)]
-pub extern "C" fn dimetumble_hops_f64(
+pub extern "C" fn dimetumble_hops_f64<'a>(
     bound: usize,
     count: usize,
     directed: u8,
@@ -341,12 +341,12 @@ pub extern "C" fn dimetumble_hops_f64(
     bits: &[u64],
     opens: &[u8],
     listed: &mut usize,
-    nodes: &mut [u32],
-    matrix: &mut [u32],
-    offsets: &mut [usize],
-    heads: &mut [u16],
-    labels: &mut [usize],
-    queue: &mut [usize],
+    nodes: &'a mut [u32],
+    matrix: &'a mut [u32],
+    offsets: &'a mut [usize],
+    heads: &'a mut [u16],
+    labels: &'a mut [usize],
+    queue: &'a mut [usize],
 ) -> usize
     ensures { hops.Promise
         (net_of64 bound count (is_set directed) marks.now from.now to.now bits.now

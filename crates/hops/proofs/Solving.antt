@@ -3,7 +3,7 @@
 use mathlib.Core.Path.{◌≡◌, sym, ap, ◌∙◌, subst}
 use mathlib.Core.Bool.{Bool}
 use mathlib.Core.List.{List, ◌++◌}
-use Prim.Native.Nat.{ℕ, ◌+◌, ◌*◌, ◌≤◌, ◌<◌}
+use Prim.Native.Nat.{ℕ, ◌+◌, ◌*◌, ◌<◌}
 use native.Mathlib.Omega.{arith}
 use lib.ListN.{length, get_or, drop, take, length-append, length-drop, get_or-append}
 use lib.Seq.{ext_get_or, get_or-drop}
@@ -33,10 +33,6 @@ module _ {m n : ℕ} {d : Bool} {marks xs ys : List ℕ} {b : Buffers} (ripe : R
   list_room =
       room_of (arcs_ends d n xs ys) m (most_arcs_of g) (end_lists b.offsets b.heads) (links_room d n (ends xs ys)) (omega (arith, ripe.fits.offsets)) ripe.fits.heads
       (omega (arith, units_long b.heads, ripe.fits.heads))
-
-  -- what the node list asks
-  pub nodes_room : (m ≤ 1024) × (m ≤ length marks) × (width g ≤ length b.nodes)
-  nodes_room = (ripe.ready.indices, ripe.marked, ripe.fits.nodes)
 
   module _ {ns : List ℕ} (is : ns ≡ nodes_of g ++ drop (width g) b.nodes) where
     node_at : (j : ℕ) → j < width g → get_or ns j 0 ≡ get_or (nodes_of g) j 0

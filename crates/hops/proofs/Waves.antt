@@ -10,11 +10,11 @@ use native.Mathlib.Omega.{arith}
 use native.Mathlib.Decide.{ℕ_discrete, dec_lt}
 use borrow.Author.Tests.{eq-eqb, ne_eqb}
 use lib.ListN.{length, get_or, drop, set, length-set}
-use lib.Seq.{get_or-set_same, get_or-set_other, drop-set-lt, set-get_or}
+use lib.Seq.{get_or-set_same, get_or-set_other, drop-set-lt}
 use Rattle.rows.specs.Rows.{end_lists}
 use Rattle.rows.specs.RowArc.{Sound}
 use Rattle.hops.specs.Steps.{Steps, stay, step, Entry}
-use Rattle.hops.specs.Search.{RowLeads, blanks, shown_of, Low, label_of, size_after, Met, old, new, Good, Turning, Open, Kept, RowDone, Fresh, Searched}
+use Rattle.hops.specs.Search.{RowLeads, blanks, shown_of, Low, Met, old, new, Good, Turning, Open, Kept, RowDone, Fresh, Searched}
 use Rattle.hops.proofs.Steps.{snoc}
 
 -- ---- how many labels are 0
@@ -82,14 +82,6 @@ kept_met {m} {v} {k} {n} {l = l} {q = q} h f (new z a b c) = record {
   labels = ap (drop m) b ∙ drop-set-lt m l v k h;
   queue = ap (drop (m + 1)) c ∙ drop-set-lt (m + 1) q n v (omega arith);
 }
-
--- what the code stores is what the look says
-pub met : (v k n : ℕ) (l q : List ℕ) (x y : ℕ) → x ≡ label_of (get_or l v 0) k → y ≡ size_after (get_or l v 0) n → Met v k n l q (set l v x) (set q n v) y
-met v k n l q x y e f = go (get_or l v 0) refl
-  where
-    go : (d : ℕ) → get_or l v 0 ≡ d → Met v k n l q (set l v x) (set q n v) y
-    go zero z = new z (f ∙ ap (λ (w : ℕ). size_after w n) z) (ap (set l v) (e ∙ ap (λ (w : ℕ). label_of w k) z)) refl
-    go (suc d) z = old (omega (arith, z)) (f ∙ ap (λ (w : ℕ). size_after w n) z) (ap (set l v) (e ∙ (ap (λ (w : ℕ). label_of w k) z ∙ sym z)) ∙ set-get_or l v 0) refl
 
 -- ---- what is written behind the queue changes nothing
 module _ {m s n : ℕ} {E : ℕ → ℕ → Type 0} {l q : List ℕ} (g : Good m s E n l q) (v : ℕ) where
@@ -190,13 +182,6 @@ module _ {m s : ℕ} {os hs : List ℕ} (fit : Sound m (end_lists os hs)) {u k h
 
   pub row_below : {i n : ℕ} {l q : List ℕ} → Open m s os hs u k i h n l q → i < get_or os (u + 1) 0 → get_or hs i 0 < m
   row_below {i} o t = fit.inside u (get_or hs i 0) tt (row_arc o t)
-
-  -- the index whose row it is, and its label
-  pub row_at : {i n : ℕ} {l q : List ℕ} → Open m s os hs u k i h n l q → u < m
-  row_at o = subst (λ (x : ℕ). x < m) o.is (o.good.inside h o.here)
-
-  pub label_few : {i n : ℕ} {l q : List ℕ} → Open m s os hs u k i h n l q → get_or l u 0 ≤ m
-  label_few {n = n} {l = l} o = subst (λ (x : ℕ). get_or l x 0 ≤ m) o.is (omega (arith, o.good.small h o.here, o.here, o.good.count))
 
   -- what is written behind the queue changes nothing
   open_behind : {i n : ℕ} {l q : List ℕ} (v : ℕ) → Open m s os hs u k i h n l q → Open m s os hs u k i h n l (set q n v)
@@ -331,13 +316,6 @@ pub record Searching (m s : ℕ) (os hs : List ℕ) (h n : ℕ) (l₀ q₀ l q :
   pub rest : Kept m l₀ q₀ l q
 
 module _ {m s : ℕ} {os hs : List ℕ} where
-  pub turn_open : {h n : ℕ} {l q : List ℕ} → Turning m s (RowLeads m os hs) h n l q → h < n → Open m s os hs (get_or q h 0) (get_or l (get_or q h 0) 0) (get_or os (get_or q h 0) 0) h n l q
-  turn_open t x =
-      record { good = t.good; source = t.source; here = x; is = refl; label = refl; top = λ j y. t.top j x y; closed = t.closed; from = omega arith; done = λ j a b. absurd (omega arith) }
-
-  pub turn_next : {h n n' : ℕ} {l₀ q₀ l q l' q' : List ℕ} → Searching m s os hs h n l₀ q₀ l q → RowDone m s os hs h l q l' q' n' → Searching m s os hs (h + 1) n' l₀ q₀ l' q'
-  turn_next t r = record { turning = r.turning; rest = kept_trans t.rest r.rest }
-
   -- the source alone
   pub turn_first : {n : ℕ} {l q l' q' : List ℕ} → Fresh m s l q → Met s 1 0 l q l' q' n → Turning m s (RowLeads m os hs) 0 n l' q'
   turn_first {l = l} f (old z a b c) = absurd (omega (arith, z, f.zeros s f.source))

@@ -7,7 +7,10 @@ use Rattle.table.specs.Links.{ends}
 use Rattle.table.specs.Lent.{room_ends}
 use Rattle.net.specs.Net.{Net, nodes_of, width, inside_net, most_arcs_of}
 use Rattle.rows.specs.Rows.{Ready}
-use Rattle.hops.specs.Promise.{Buffers, Matrix, left, table}
+use Rattle.net.specs.declared.Lent.{Lent}
+use Rattle.hops.specs.declared.Table.{Table}
+use Rattle.hops.specs.declared.Scratch.{Scratch}
+use Rattle.hops.specs.Promise.{Buffers, buffers_in, Matrix, left, table}
 
 -- refusal 1, then 2, else 0
 unfoldable pub refusal_no : {C : Type 0} → Net C → Buffers → ℕ
@@ -32,6 +35,10 @@ pub record Ripe (m n : ℕ) (d : Bool) (marks xs ys : List ℕ) (b : Buffers) : 
   pub marked : m ≤ length marks
   pub inside : inside_net (net_ends m n d marks xs ys) ≡ true
   pub fits : Fits m (most_arcs_of (net_ends m n d marks xs ys)) (width (net_ends m n d marks xs ys)) b
+
+-- the same, of a lent map of any kind and the structs of the code
+abbrev pub RipeIn : {D : Type 0} → Lent D → Table → Scratch → Type 0
+RipeIn l t s = Ripe l.map.bound l.map.count l.map.directed l.marks.now l.from.now l.to.now (buffers_in t s)
 
 -- a map solved: the answer, and the length and the rest of each scratch slice as before
 pub record Solved {C : Type 0} (g : Net C) (b e : Buffers) (p : ℕ) : Type 0 where

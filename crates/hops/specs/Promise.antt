@@ -4,6 +4,8 @@ use Rattle.std.specs.Prelude.{◌≡◌, Bool, ◌&&◌, List, [], ◌∷◌, �
 use Rattle.numbers.specs.Numbers.{Row, row, done, fails, Follows}
 use Rattle.clean.specs.Fill.{filled}
 use Rattle.net.specs.Net.{Net, LeadsOf, nodes_of, width, whole_net, inside_net, most_arcs_of}
+use Rattle.hops.specs.declared.Table.{Table}
+use Rattle.hops.specs.declared.Scratch.{Scratch}
 use Rattle.hops.specs.Steps.{Entry}
 
 -- the lent buffers: the node list, the matrix of hops, and the scratch
@@ -18,6 +20,19 @@ pub record Buffers : Type 0 where
 -- such buffers from the slices
 abbrev pub buffers_of : List ℕ → List ℕ → List ℕ → List ℕ → List ℕ → List ℕ → Buffers
 buffers_of n x o h l q = record { nodes = n; matrix = x; offsets = o; heads = h; labels = l; queue = q }
+
+-- such buffers of the structs of the code
+abbrev pub buffers_in : Table → Scratch → Buffers
+buffers_in t s = buffers_of t.nodes.now t.matrix.now s.offsets.now s.heads.now s.labels.now s.queue.now
+
+-- the same slices are lent as before
+abbrev pub SameTable : Table → Table → Type 0
+SameTable t u = (u.nodes.ghost_name ≡ t.nodes.ghost_name) × (u.matrix.ghost_name ≡ t.matrix.ghost_name)
+
+abbrev pub SameScratch : Scratch → Scratch → Type 0
+SameScratch s t =
+    (t.offsets.ghost_name ≡ s.offsets.ghost_name) × (t.heads.ghost_name ≡ s.heads.ghost_name)
+    × (t.labels.ghost_name ≡ s.labels.ghost_name) × (t.queue.ghost_name ≡ s.queue.ghost_name)
 
 -- is each buffer as long as its part used? Of scratch that is 3m + 2 + a entries
 unfoldable pub long_enough : ℕ → ℕ → ℕ → Buffers → Bool

@@ -2,25 +2,49 @@
 #![tactic(auto)]
 
 ghost use Rattle.std.specs.Prelude.{◌≡◌, ◌+◌, ◌*◌, ◌≤◌, ◌<◌, length, get_or};
-ghost use Rattle.net.specs.Net.{net_of, net_of64, rising, most_arcs};
+ghost use Rattle.numbers.specs.Refusal.{number_of, count_after};
+ghost use Rattle.net.specs.Net.{net_in, rising, most_arcs};
 ghost use Rattle.table.specs.Links.{present};
 ghost use Rattle.rows.specs.Rows.{end_lists};
 ghost use Rattle.rows.specs.RowArc.{Sound};
 ghost use Rattle.hops.specs.Search.{RowLeads, label_of, size_after, Met, Open, RowDone, Fresh, Searched};
 ghost use Rattle.hops.specs.Search.{shown_of, CanShow, RowShown, CanRow, RowMade, CanFill, Filled};
-ghost use Rattle.hops.specs.Promise.{Promise, buffers_of, long_enough};
-ghost use Rattle.hops.specs.Parts.{refusal_no, net_ends, EnoughScratch, Wiped, Ripe, Solved, Answered};
+ghost use Rattle.hops.specs.Promise.{Promise, buffers_in, SameTable, SameScratch, long_enough};
+ghost use Rattle.hops.specs.Parts.{refusal_no, net_ends, EnoughScratch, Wiped, RipeIn, Solved, Answered};
 
-use table::Map;
+use net::{Costs, Lent};
+use numbers::Refusal;
+
+// What a call fills: the nodes, and the matrix of the numbers of arcs between them.
+#[derive(Drop)]
+pub struct Table<'a> {
+    pub nodes: &'a mut [u32],
+    pub matrix: &'a mut [u32],
+}
+
+// What a call works in: the neighbour list, and the labels and the queue of a search.
+#[derive(Drop)]
+pub struct Scratch<'a> {
+    pub offsets: &'a mut [usize],
+    pub heads: &'a mut [u16],
+    pub labels: &'a mut [usize],
+    pub queue: &'a mut [usize],
+}
+
+// The neighbour list of a map, which a search only reads.
+#[derive(Clone, Copy)]
+struct Rows<'a> {
+    bound: usize,
+    offsets: &'a [usize],
+    heads: &'a [u16],
+    ghost sound: { Sound bound (end_lists offsets.now heads.now) },
+}
 
 // The label of an index that is looked at: the one it had, or the next one where it had none.
 fn label_of(had: usize, next: usize) -> usize
     ensures { result ≡ label_of had next }
 {
-    if had == 0 {
-        return next;
-    }
-    had
+    if had == 0 { next } else { had }
 }
 
 // How many stand in the queue after an index was looked at.
@@ -28,10 +52,7 @@ fn size_after(had: usize, size: usize) -> usize
     requires { size ≤ 1024 }
     ensures { result ≡ size_after had size }
 {
-    if had == 0 {
-        return size + 1;
-    }
-    size
+    if had == 0 { size + 1 } else { size }
 }
 
 // Look at the index v: one not seen yet gets the label and goes to the end of the queue. Gives how many stand there.
@@ -49,54 +70,41 @@ fn meet(v: usize, label: usize, size: usize, labels: &mut [usize], queue: &mut [
 
 // Look at every arc of the row of u, which stands at a place of the queue.
 fn expand(
-    m: usize,
+    rows: Rows,
     source: usize,
     u: usize,
     place: usize,
     waiting: usize,
-    offsets: &[usize],
-    heads: &[u16],
     labels: &mut [usize],
     queue: &mut [usize],
 ) -> usize
-    requires sound { Sound m (end_lists offsets.now heads.now) }
-    requires fact { Open m source offsets.now heads.now u (get_or labels.old u 0) (get_or offsets.now u 0) place waiting labels.old
-        queue.old }
-    ensures { RowDone m source offsets.now heads.now place labels.old queue.old
+    requires { Open rows.bound source rows.offsets.now rows.heads.now u (get_or labels.old u 0)
+        (get_or rows.offsets.now u 0) place waiting labels.old queue.old }
+    ensures { RowDone rows.entry.bound source rows.entry.offsets.now rows.entry.heads.now place labels.old queue.old
         labels.new queue.new result }
 {
     let next = labels[u] + 1;
-    let end = offsets[u + 1];
-    let mut size: usize = waiting;
-    let mut i: usize = offsets[u];
-    while i < end {
-        let v = heads[i] as usize;
-        size = meet(v, next, size, labels, queue);
-        i += 1;
+    let heads = rows.heads;
+    let mut size = waiting;
+    for i in rows.offsets[u]..rows.offsets[u + 1] {
+        size = meet(usize::from(heads[i]), next, size, labels, queue);
     }
     size
 }
 
 // The search from a source: the label of each index in reach. It ends early where every index has one.
-fn search(
-    m: usize,
-    source: usize,
-    offsets: &[usize],
-    heads: &[u16],
-    labels: &mut [usize],
-    queue: &mut [usize],
-)
-    requires sound { Sound m (end_lists offsets.now heads.now) }
-    requires fresh { Fresh m source labels.old queue.old }
-    ensures { Searched m source
-        (RowLeads m offsets.now heads.now) labels.old queue.old labels.new
+fn search(rows: Rows, source: usize, labels: &mut [usize], queue: &mut [usize])
+    requires { Fresh rows.bound source labels.old queue.old }
+    ensures { Searched rows.entry.bound source
+        (RowLeads rows.entry.bound rows.entry.offsets.now rows.entry.heads.now) labels.old queue.old labels.new
         queue.new }
 {
-    let mut size: usize = meet(source, 1, 0, labels, queue);
-    let mut head: usize = 0;
-    while head < size && size < m {
+    let mut size = meet(source, 1, 0, labels, queue);
+    let mut head = 0;
+    // A worklist: the queue grows in each turn, so a `for` does not know its end.
+    while head < size && size < rows.bound {
         let u = queue[head];
-        size = expand(m, source, u, head, size, offsets, heads, labels, queue);
+        size = expand(rows, source, u, head, size, labels, queue);
         head += 1;
     }
 }
@@ -107,9 +115,10 @@ fn shown(label: usize) -> u32
     ensures { result ≡ shown_of label }
 {
     if label == 0 {
-        return clean::NONE_U32;
+        clean::NONE_U32
+    } else {
+        (label - 1) as u32
     }
-    (label - 1) as u32
 }
 
 // Write the row of the matrix that starts at a place, from the labels of the nodes.
@@ -117,343 +126,160 @@ fn show_row(p: usize, at: usize, nodes: &[u32], labels: &[usize], matrix: &mut [
     requires { CanShow p at nodes.now labels.now matrix.old }
     ensures { RowShown p at nodes.now labels.now matrix.old matrix.new }
 {
-    let mut j: usize = 0;
-    while j < p {
-        let v = nodes[j] as usize;
-        matrix[at + j] = shown(labels[v]);
-        j += 1;
+    for (j, v) in nodes[..p].iter().enumerate() {
+        matrix[at + j] = shown(labels[*v as usize]);
     }
 }
 
 // Make the row of one source: a search on clean labels, shown.
 fn make_row(
-    m: usize,
+    rows: Rows,
     p: usize,
     source: usize,
     at: usize,
     nodes: &[u32],
-    offsets: &[usize],
-    heads: &[u16],
     labels: &mut [usize],
     queue: &mut [usize],
     matrix: &mut [u32],
 )
-    requires sound { Sound m (end_lists offsets.now heads.now) }
-    requires can_row { CanRow m p source at nodes.now labels.old queue.old matrix.old }
-    ensures { RowMade m p source at
-        (RowLeads m offsets.now heads.now) nodes.now labels.old queue.old
+    requires { CanRow rows.bound p source at nodes.now labels.old queue.old matrix.old }
+    ensures { RowMade rows.entry.bound p source at
+        (RowLeads rows.entry.bound rows.entry.offsets.now rows.entry.heads.now) nodes.now labels.old queue.old
         matrix.old labels.new queue.new matrix.new }
 {
-    clean::clear_usize(labels, m);
-    search(m, source, offsets, heads, labels, queue);
+    clean::fill(labels, rows.bound, 0);
+    search(rows, source, labels, queue);
     show_row(p, at, nodes, labels, matrix);
 }
 
 // Make every row, in the order of the nodes.
-#[tactic(auto, using(matrix::proofs::Matrix::row_in, matrix::proofs::Matrix::square_small))]
+#[tactic(auto, using(matrix::proofs::Matrix::row_in))]
 fn fill(
-    m: usize,
+    rows: Rows,
     p: usize,
     nodes: &[u32],
-    offsets: &[usize],
-    heads: &[u16],
     labels: &mut [usize],
     queue: &mut [usize],
     matrix: &mut [u32],
 )
-    requires sound { Sound m (end_lists offsets.now heads.now) }
-    requires can_fill { CanFill m p nodes.now labels.old queue.old matrix.old }
-    ensures { Filled m p p
-        (RowLeads m offsets.now heads.now) nodes.now labels.old queue.old
+    requires { CanFill rows.bound p nodes.now labels.old queue.old matrix.old }
+    ensures { Filled rows.entry.bound p p
+        (RowLeads rows.entry.bound rows.entry.offsets.now rows.entry.heads.now) nodes.now labels.old queue.old
         matrix.old labels.new queue.new matrix.new }
 {
-    let mut i: usize = 0;
-    while i < p {
-        let source = nodes[i] as usize;
-        make_row(
-            m,
-            p,
-            source,
-            i * p,
-            nodes,
-            offsets,
-            heads,
-            labels,
-            queue,
-            matrix,
-        );
-        i += 1;
+    for (i, node) in nodes[..p].iter().enumerate() {
+        let source = *node as usize;
+        make_row(rows, p, source, i * p, nodes, labels, queue, matrix);
     }
 }
 
 // List the nodes and fill the matrix, by the ends of the links alone. Gives p.
-fn solve(
-    map: Map,
-    marks: &[u8],
-    from: &[u16],
-    to: &[u16],
-    nodes: &mut [u32],
-    matrix: &mut [u32],
-    offsets: &mut [usize],
-    heads: &mut [u16],
-    labels: &mut [usize],
-    queue: &mut [usize],
-) -> usize
-    requires { Ripe map.bound map.count map.directed marks.now from.now to.now
-        (buffers_of nodes.old matrix.old offsets.old heads.old labels.old queue.old) }
-    ensures { let lent = buffers_of nodes.old matrix.old offsets.old heads.old labels.old
-        queue.old in
-        let left = buffers_of nodes.new matrix.new offsets.new heads.new labels.new
-        queue.new in
-        Solved
-        (net_ends map.bound map.count map.directed marks.now from.now to.now) lent left result }
+fn solve<C: Costs>(net: Lent<C>, table: &mut Table, scratch: &mut Scratch) -> usize
+    requires { RipeIn net table.old scratch.old }
+    ensures solved { Solved
+        (net_ends net.entry.map.bound net.entry.map.count net.entry.map.directed net.entry.marks.now net.entry.from.now
+        net.entry.to.now)
+        (buffers_in table.old scratch.old) (buffers_in table.new scratch.new) result }
+    ensures same_table { SameTable table.old table.new }
+    ensures same_scratch { SameScratch scratch.old scratch.new }
 {
-    let m = map.bound;
-    rows::position_csr_ends(map, from, to, offsets, heads);
-    let p = net::list_nodes(m, marks, nodes);
-    fill(m, p, nodes, offsets, heads, labels, queue, matrix);
+    let bound = net.map.bound;
+    let p = net::list_nodes(bound, net.marks, table.nodes);
+    let offsets = &mut *scratch.offsets;
+    let heads = &mut *scratch.heads;
+    rows::position_csr_ends(net, offsets, heads);
+    let rows = Rows {
+        bound,
+        offsets,
+        heads,
+    };
+    let nodes = &mut *table.nodes;
+    let labels = &mut *scratch.labels;
+    let queue = &mut *scratch.queue;
+    let matrix = &mut *table.matrix;
+    fill(rows, p, nodes, labels, queue, matrix);
     p
 }
 
-// Zero in the part used of each scratch slice.
-fn wipe(
-    m: usize,
-    a: usize,
-    offsets: &mut [usize],
-    heads: &mut [u16],
-    labels: &mut [usize],
-    queue: &mut [usize],
-)
-    requires { EnoughScratch m a offsets.old heads.old labels.old queue.old }
-    ensures { Wiped m a offsets.old heads.old labels.old queue.old offsets.new
-        heads.new labels.new queue.new }
-{
-    clean::clear_usize(offsets, m + 1);
-    clean::clear_u16(heads, a);
-    clean::clear_usize(labels, m);
-    clean::clear_usize(queue, m + 1);
+impl<'a> Scratch<'a> {
+    // Zero in the part used of each slice, for m indices and a arcs.
+    fn wipe(&mut self, m: usize, a: usize)
+        requires { EnoughScratch m a self.old.offsets.now self.old.heads.now self.old.labels.now self.old.queue.now }
+        ensures wiped { Wiped m a self.old.offsets.now self.old.heads.now self.old.labels.now self.old.queue.now
+            self.new.offsets.now self.new.heads.now self.new.labels.now self.new.queue.now }
+        ensures same { SameScratch self.old self.new }
+    {
+        clean::fill(self.offsets, m + 1, 0);
+        clean::fill(self.heads, a, 0);
+        clean::fill(self.labels, m, 0);
+        clean::fill(self.queue, m + 1, 0);
+    }
 }
 
 // The answer for a map of either kind that is not refused. Gives p.
-fn answer(
-    map: Map,
-    marks: &[u8],
-    from: &[u16],
-    to: &[u16],
-    nodes: &mut [u32],
-    matrix: &mut [u32],
-    offsets: &mut [usize],
-    heads: &mut [u16],
-    labels: &mut [usize],
-    queue: &mut [usize],
-) -> usize
-    requires { Ripe map.bound map.count map.directed marks.now from.now to.now
-        (buffers_of nodes.old matrix.old offsets.old heads.old labels.old queue.old) }
-    ensures { let lent = buffers_of nodes.old matrix.old offsets.old heads.old labels.old
-        queue.old in
-        let left = buffers_of nodes.new matrix.new offsets.new heads.new labels.new
-        queue.new in
-        Answered
-        (net_ends map.bound map.count map.directed marks.now from.now to.now) lent left result }
+fn answer<C: Costs>(net: Lent<C>, table: &mut Table, scratch: &mut Scratch) -> usize
+    requires { RipeIn net table.old scratch.old }
+    ensures answered { Answered
+        (net_ends net.entry.map.bound net.entry.map.count net.entry.map.directed net.entry.marks.now net.entry.from.now
+        net.entry.to.now)
+        (buffers_in table.old scratch.old) (buffers_in table.new scratch.new) result }
+    ensures same_table { SameTable table.old table.new }
+    ensures same_scratch { SameScratch scratch.old scratch.new }
 {
-    let a = net::most_arcs(map.directed, map.count);
-    let p = solve(
-        map, marks, from, to, nodes, matrix, offsets, heads, labels, queue,
-    );
-    wipe(map.bound, a, offsets, heads, labels, queue);
+    let m = net.map.bound;
+    let a = net.most_arcs();
+    let p = solve(net, table, scratch);
+    scratch.wipe(m, a);
     p
 }
 
 // Is each buffer as long as its part used?
-fn long_enough(
-    map: Map,
-    marks: &[u8],
-    nodes: &[u32],
-    matrix: &[u32],
-    offsets: &[usize],
-    heads: &[u16],
-    labels: &[usize],
-    queue: &[usize],
-) -> bool
-    requires { (map.bound ≤ 1024) × (map.count ≤ 8192) × (map.bound ≤ length marks.now) }
-    ensures { let lent = buffers_of nodes.now matrix.now offsets.now heads.now labels.now
-        queue.now in
-        result ≡ long_enough map.bound (most_arcs map.directed map.count)
-        (length (rising (present map.bound marks.now) map.bound)) lent }
+#[tactic(auto, unfolding(crate::specs::Promise::long_enough))]
+fn long_enough<C: Costs>(net: &Lent<C>, table: &Table, scratch: &Scratch) -> bool
+    requires { (net.now.map.bound ≤ 1024) × (net.now.map.count ≤ 8192)
+        × (net.now.map.bound ≤ length net.now.marks.now) }
+    ensures { result ≡ long_enough net.now.map.bound (most_arcs net.now.map.directed net.now.map.count)
+        (length (rising (present net.now.map.bound net.now.marks.now) net.now.map.bound))
+        (buffers_in table.now scratch.now) }
 {
-    let m = map.bound;
-    let a = net::most_arcs(map.directed, map.count);
-    let p = net::count_present(m, marks);
-    if nodes.len() < p {
-        return false;
-    }
-    if matrix.len() < p * p {
-        return false;
-    }
-    if offsets.len() < m + 1 {
-        return false;
-    }
-    if heads.len() < a {
-        return false;
-    }
-    if labels.len() < m {
-        return false;
-    }
-    if queue.len() < m + 1 {
-        return false;
-    }
-    true
+    let m = net.map.bound;
+    let a = net.most_arcs();
+    let p = net::count_present(m, net.marks);
+    p <= table.nodes.len()
+        && p * p <= table.matrix.len()
+        && m + 1 <= scratch.offsets.len()
+        && a <= scratch.heads.len()
+        && m <= scratch.labels.len()
+        && m + 1 <= scratch.queue.len()
 }
 
-// 1 where a limit is passed or a lent slice is too short, 2 where a link names an index that the map has not, else 0: for an integer map.
-fn refusal(
-    map: Map,
-    marks: &[u8],
-    from: &[u16],
-    to: &[u16],
-    costs: &[i32],
-    nodes: &[u32],
-    matrix: &[u32],
-    offsets: &[usize],
-    heads: &[u16],
-    labels: &[usize],
-    queue: &[usize],
-) -> usize
-    ensures { let net = net_of map.bound map.count map.directed marks.now from.now to.now
-        costs.now in
-        let lent = buffers_of nodes.now matrix.now offsets.now heads.now labels.now
-        queue.now in
-        result ≡ refusal_no net lent }
+// The refusals: Limit where a limit is passed or a lent slice is too short, then Index.
+#[tactic(auto, unfolding(crate::specs::Parts::refusal_no))]
+fn refusal<C: Costs>(net: &Lent<C>, table: &Table, scratch: &Scratch) -> Result<(), Refusal>
+    ensures { number_of result
+        ≡ refusal_no (net_in C.listed C.room net.now) (buffers_in table.now scratch.now) }
 {
-    if !net::whole(map, marks, from, to, costs) {
-        return 1;
+    if !net.whole() || !long_enough(net, table, scratch) {
+        return Err(Refusal::Limit);
     }
-    if !long_enough(map, marks, nodes, matrix, offsets, heads, labels, queue) {
-        return 1;
+    if !net.inside() {
+        return Err(Refusal::Index);
     }
-    if !net::inside(map, marks, from, to, costs) {
-        return 2;
-    }
-    0
+    Ok(())
 }
 
-// 1 where a limit is passed or a lent slice is too short, 2 where a link names an index that the map has not, else 0: for an f64 map.
-fn refusal_f64(
-    map: Map,
-    marks: &[u8],
-    from: &[u16],
-    to: &[u16],
-    bits: &[u64],
-    opens: &[u8],
-    nodes: &[u32],
-    matrix: &[u32],
-    offsets: &[usize],
-    heads: &[u16],
-    labels: &[usize],
-    queue: &[usize],
-) -> usize
-    ensures { let net = net_of64 map.bound map.count map.directed marks.now from.now to.now
-        bits.now opens.now in
-        let lent = buffers_of nodes.now matrix.now offsets.now heads.now labels.now
-        queue.now in
-        result ≡ refusal_no net lent }
+// The nodes and the least numbers of arcs between all pairs of them, of a map of either kind. Gives how many nodes there are.
+// The promise is in specs/Promise.antt.
+pub fn hops<C: Costs>(
+    net: Lent<C>,
+    table: &mut Table,
+    scratch: &mut Scratch,
+) -> Result<usize, Refusal>
+    ensures promise { Promise (net_in C.listed C.room net.entry) (buffers_in table.old scratch.old)
+        (buffers_in table.new scratch.new) (number_of result) (count_after 0 result) }
+    ensures same_table { SameTable table.old table.new }
+    ensures same_scratch { SameScratch scratch.old scratch.new }
 {
-    if !net::whole_f64(map, marks, from, to, bits, opens) {
-        return 1;
-    }
-    if !long_enough(map, marks, nodes, matrix, offsets, heads, labels, queue) {
-        return 1;
-    }
-    if !net::inside_f64(map, marks, from, to, bits, opens) {
-        return 2;
-    }
-    0
-}
-
-// The number of the answer, and p: how many nodes are listed, 0 after a refusal.
-#[derive(Clone, Copy)]
-pub struct Counted {
-    pub number: usize,
-    pub count: usize,
-}
-
-// The nodes and the least numbers of arcs between all pairs of them, of an integer map. The promise is in specs/Promise.antt.
-pub fn hops(
-    map: Map,
-    marks: &[u8],
-    from: &[u16],
-    to: &[u16],
-    costs: &[i32],
-    nodes: &mut [u32],
-    matrix: &mut [u32],
-    offsets: &mut [usize],
-    heads: &mut [u16],
-    labels: &mut [usize],
-    queue: &mut [usize],
-) -> Counted
-    ensures { let net = net_of map.bound map.count map.directed marks.now from.now to.now
-        costs.now in
-        let lent = buffers_of nodes.old matrix.old offsets.old heads.old labels.old
-        queue.old in
-        let left = buffers_of nodes.new matrix.new offsets.new heads.new labels.new
-        queue.new in
-        Promise net lent left result.number result.count }
-{
-    let refused = refusal(
-        map, marks, from, to, costs, nodes, matrix, offsets, heads, labels, queue,
-    );
-    if refused != 0 {
-        return Counted {
-            number: refused,
-            count: 0,
-        };
-    }
-    let p = answer(
-        map, marks, from, to, nodes, matrix, offsets, heads, labels, queue,
-    );
-    Counted {
-        number: 0,
-        count: p,
-    }
-}
-
-// The nodes and the least numbers of arcs between all pairs of them, of an f64 map. The promise is in specs/Promise.antt.
-pub fn hops_f64(
-    map: Map,
-    marks: &[u8],
-    from: &[u16],
-    to: &[u16],
-    bits: &[u64],
-    opens: &[u8],
-    nodes: &mut [u32],
-    matrix: &mut [u32],
-    offsets: &mut [usize],
-    heads: &mut [u16],
-    labels: &mut [usize],
-    queue: &mut [usize],
-) -> Counted
-    ensures { let net = net_of64 map.bound map.count map.directed marks.now from.now to.now
-        bits.now opens.now in
-        let lent = buffers_of nodes.old matrix.old offsets.old heads.old labels.old
-        queue.old in
-        let left = buffers_of nodes.new matrix.new offsets.new heads.new labels.new
-        queue.new in
-        Promise net lent left result.number result.count }
-{
-    let refused = refusal_f64(
-        map, marks, from, to, bits, opens, nodes, matrix, offsets, heads, labels, queue,
-    );
-    if refused != 0 {
-        return Counted {
-            number: refused,
-            count: 0,
-        };
-    }
-    let p = answer(
-        map, marks, from, to, nodes, matrix, offsets, heads, labels, queue,
-    );
-    Counted {
-        number: 0,
-        count: p,
-    }
+    refusal(&net, table, scratch)?;
+    Ok(answer(net, table, scratch))
 }

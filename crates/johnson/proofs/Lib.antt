@@ -2,7 +2,6 @@ pub mod Looks
 pub mod Sweeps
 pub mod Tests
 pub mod Steps
-pub mod Sums
 pub mod Shifts
 pub mod Shifted
 pub mod Shows

@@ -1,7 +1,7 @@
 -- The refusals 1 and 2 as facts.
 -- Assumes nothing.
-use mathlib.Core.Path.{◌≡◌, sym, ◌∙◌}
-use mathlib.Core.Bool.{Bool, true, false}
+use mathlib.Core.Path.{◌≡◌}
+use mathlib.Core.Bool.{Bool, true}
 use mathlib.Core.List.{List}
 use Prim.Native.Nat.{ℕ, ◌*◌}
 use borrow.Author.Tests.{leb-true}
@@ -21,27 +21,6 @@ use Rattle.johnson.specs.Promise.{Scratch, long_enough, enough, wiped_all, Promi
 use Rattle.johnson.specs.Parts.{refusal_no, Passed}
 
 module _ (g : Net ℤ) (matrix : List ℤ) (s : Scratch) where
-  pub refused_limits : whole_net g ≡ false → 1 ≡ refusal_no g matrix s
-  unfolding refusal_no
-  refused_limits e = rw e
-
-  -- the test of the slices, which said r
-  module _ (e : whole_net g ≡ true) {a p : ℕ} {r : Bool} (said : r ≡ long_enough g.bound a p matrix s) (room : a ≡ most_arcs_of g) (many : p ≡ width g) where
-    gave : long_enough g.bound (most_arcs_of g) (width g) matrix s ≡ r
-    gave = sym (said ∙ (λ t. long_enough g.bound (room t) (many t) matrix s))
-
-    pub refused_short : r ≡ false → 1 ≡ refusal_no g matrix s
-    unfolding refusal_no
-    refused_short f = rw (e, gave ∙ f)
-
-    pub refused_outside : r ≡ true → inside_net g ≡ false → 2 ≡ refusal_no g matrix s
-    unfolding refusal_no
-    refused_outside f i = rw (e, gave ∙ f, i)
-
-    pub refused_none : r ≡ true → inside_net g ≡ true → 0 ≡ refusal_no g matrix s
-    unfolding refusal_no
-    refused_none f i = rw (e, gave ∙ f, i)
-
   -- a refusal is what the promise says
   pub refused : (r : ℕ) → r ≡ refusal_no g matrix s → (r ≡ 0 → ⊥) → Promise g matrix s matrix s r
   unfolding refusal_no

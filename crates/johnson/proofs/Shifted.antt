@@ -3,7 +3,7 @@
 -- before a place are shifted and those from it on are as they were, row after row; so in the end each arc of the list is one of the list before, with its cost
 -- shifted, and each of those is there.
 -- Assumes nothing.
-use mathlib.Core.Path.{◌≡◌, refl, sym, ap, ◌∙◌, subst}
+use mathlib.Core.Path.{◌≡◌, sym, ap, ◌∙◌, subst}
 use mathlib.Core.List.{List}
 use Prim.Native.Nat.{ℕ, ◌+◌, ◌≤◌, ◌<◌}
 use native.Mathlib.Omega.{arith}
@@ -17,14 +17,11 @@ use Rattle.rows.specs.Rows.{Lists, lists_of}
 use Rattle.rows.specs.RowArc.{RowArc}
 use Rattle.walks.specs.Shift.{Shifted}
 use Rattle.johnson.specs.Rounds.{label}
-use Rattle.johnson.specs.Shifting.{shifted_cost, start, Listed, ShiftedTo, RowShifted}
+use Rattle.johnson.specs.Shifting.{shifted_cost, start, Listed, ShiftedTo}
 
 -- rows that follow one another
 abbrev Rising : ℕ → Lists ℤ → Type 0
 Rising m nb = (v w : ℕ) → v ≤ w → w ≤ m → start nb v ≤ start nb w
-
-pub shift_starts : (m : ℕ) (nb : Lists ℤ) (h : List ℤ) → Rising m nb → ShiftedTo m nb h nb.weights (start nb 0)
-shift_starts m nb h rising = record { long = refl; each = λ u j l a b k. absurd (omega (arith, rising 0 u (omega arith) (omega arith))); rest = λ j l. refl }
 
 -- a place lies in one row
 one_row : (m : ℕ) (nb : Lists ℤ) → Rising m nb → (u w j : ℕ) → u < m → w < m → start nb u ≤ j → j < start nb (u + 1) → start nb w ≤ j → j < start nb (w + 1) → w ≡ u
@@ -63,9 +60,6 @@ pub record Shifting (m u : ℕ) (os hs : List ℕ) (h ws ws' : List ℤ) (i : �
   pub still : (j : ℕ) → i ≤ j → get_or ws' j (pos 0) ≡ get_or ws j (pos 0)
   pub next : (ws₀ : List ℤ) → ShiftedTo m (lists_of os hs ws₀) h ws (get_or os u 0) → ShiftedTo m (lists_of os hs ws₀) h ws' i
 
-pub row_starts : (m u : ℕ) (os hs : List ℕ) (h ws : List ℤ) → u < m → Listed m u (lists_of os hs ws) h → Shifting m u os hs h ws ws (get_or os u 0)
-row_starts m u os hs h ws l w = record { from = omega arith; some = w.rising u (u + 1) (omega arith) (omega arith); long = refl; still = λ j k. refl; next = λ ws₀ q. q }
-
 module _ {m u : ℕ} {os hs : List ℕ} {h ws ws' : List ℤ} {i : ℕ} (l : u < m) (w : Listed m u (lists_of os hs ws) h) (q : Shifting m u os hs h ws ws' i) where
   -- what a turn of the row's loop needs
   module _ (k : i < get_or os (u + 1) 0) where
@@ -95,23 +89,6 @@ module _ {m u : ℕ} {os hs : List ℕ} {h ws ws' : List ℤ} {i : ℕ} (l : u <
 
     pub row_next : {ws'' : List ℤ} → ws'' ≡ set ws' i (shifted_cost h u (get_or hs i 0) (get_or ws' i (pos 0))) → Shifting m u os hs h ws ws'' (i + 1)
     row_next e = subst (λ (x : List ℤ). Shifting m u os hs h ws x (i + 1)) (sym e) stored
-
-  pub row_ends : get_or os (u + 1) 0 ≤ i → RowShifted m u os hs h ws ws'
-  row_ends k = record { long = q.long; next = λ ws₀ z. let e : i ≡ get_or os (u + 1) 0 = omega (arith, q.some) in subst (ShiftedTo m (lists_of os hs ws₀) h ws') e (q.next ws₀ z) }
-
--- after the rows before u the row of u may be shifted
-pub listed_on : {m u : ℕ} {os hs : List ℕ} {h ws ws' : List ℤ} → Listed m 0 (lists_of os hs ws) h → u < m → ShiftedTo m (lists_of os hs ws) h ws' (get_or os u 0) → Listed m u (lists_of os hs ws') h
-listed_on {m} {u} {os} w l s = record {
-  starts = w.starts;
-  rising = w.rising;
-  few = w.few;
-  room_h = w.room_h;
-  room_w = omega (arith, w.room_w, s.long);
-  inside = w.inside;
-  small = λ j a b. subst Cost32 (sym (s.rest j a)) (w.small j (omega (arith, w.rising 0 u (omega arith) (omega arith))) b);
-  long = w.long;
-  deep = w.deep;
-}
 
 -- ---- the arcs of the shifted list are the shifted arcs
 module _ {m : ℕ} {os hs : List ℕ} {h ws ws' : List ℤ} (w : Listed m 0 (lists_of os hs ws) h) (to : ShiftedTo m (lists_of os hs ws) h ws' (get_or os m 0)) where

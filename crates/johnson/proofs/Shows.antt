@@ -29,10 +29,8 @@ use Rattle.rows.specs.Rows.{Lists}
 use Rattle.rows.specs.RowArc.{RowArc}
 use Rattle.turns.specs.Memory.{Memory}
 use Rattle.turns.specs.Firsts.{KeptMemory}
-use Rattle.turns.proofs.Firsts.{memory_none}
-use Rattle.search.specs.Runs.{Cheap, ToAll, done, bad}
+use Rattle.search.specs.Runs.{ToAll, done, bad}
 use Rattle.matrix.proofs.Matrix.{square_small, row_in, row_before}
-use Rattle.johnson.specs.Rounds.{label, Deep}
 use Rattle.johnson.specs.Shifting.{shifted_back}
 use Rattle.johnson.specs.Parts.{Even, Found, rank, Moderate, CanShow, RowShown, CanFill, EntryShown, Filled, RowMade}
 
@@ -44,16 +42,9 @@ pub record Showing (m at s : ℕ) (marks : List ℕ) (h ds before after : List �
   pub row : RowShown m at s v marks h ds before after
 
 module _ {m at s : ℕ} {marks : List ℕ} {h ds before : List ℤ} where
-  pub show_first : Showing m at s marks h ds before before 0 0
-  show_first = record { within = omega arith; count = refl; row = record { long = refl; each = λ v l e. absurd (omega arith); ahead = λ x l. refl; past = λ x l. refl } }
-
   module _ (can : CanShow m at s marks h ds before) {after : List ℤ} {j v : ℕ} (r : Showing m at s marks h ds before after j v) (l : v < m) where
     pub show_room : (get_or marks v 0 ≡ 0 → ⊥) → at + j < length after
     show_room f = omega (arith, r.count, r.row.long, can.room, (ranked (present m marks) m v l (present_yes m marks v l f)).within)
-
-    -- what shifting back asks
-    pub show_asks : (s < length h) × (v < length h) × (v < length ds) × Moderate (get_or ds v (pos 0)) × Deep (2 ^ 59) (label h s) × Deep (2 ^ 59) (label h v)
-    show_asks = (omega (arith, can.source, can.long), omega (arith, can.long), omega (arith, can.long_d), can.moderate v l, can.deep s, can.deep v)
 
     pub show_next : (y : ℤ) → (get_or marks v 0 ≡ 0 → ⊥) → y ≡ shifted_back h s v (get_or ds v (pos 0)) → Showing m at s marks h ds before (set after (at + j) y) (j + 1) (v + 1)
     show_next y f e = record {
@@ -92,9 +83,6 @@ module _ {m at s : ℕ} {marks : List ℕ} {h ds before : List ℤ} where
         go x k q (yes z) = absurd (clash (sym (ap (present m marks) z) ∙ q) (present_no m marks v l e))
         go x k q (no z) = r.row.each x (omega (arith, z)) q
 
-  pub show_last : {after : List ℤ} {j v : ℕ} → Showing m at s marks h ds before after j v → m ≤ v → RowShown m at s m marks h ds before after
-  show_last {after} {v} r k = let e : v ≡ m = omega (arith, r.within) in subst (λ (i : ℕ). RowShown m at s i marks h ds before after) e r.row
-
 -- ---- what is found is not far from 0
 pub total_moderate : {m : ℕ} {nb : Lists ℤ} → Even m nb → (s v : ℕ) (d : ℤ) → s < m → Total (RowArc m nb) s v d → Moderate d
 total_moderate {m} {nb} w s v d l (inl q) t =
@@ -113,10 +101,6 @@ total_moderate {m} {nb} w s v d l (inl q) t =
     costs : Costs (2 ^ 42) (RowArc m nb)
     costs x y c a = let p : pos 0 ≤ℤ c = w.up x y c a in omega (arith, zed, w.cheap x y c a)
 total_moderate w s v d l (inr q) t = let e : d ≡ none_i64 = q.0 in absurd (omega (arith, zed))
-
--- the search may run, and finds an entry for each index: no weight is below 0
-pub cheap : {m : ℕ} {nb : Lists ℤ} → Even m nb → Cheap m nb
-cheap w = record { rows = w.rows; cheap = w.cheap }
 
 pub found : {m s : ℕ} {nb : Lists ℤ} {before after : List ℤ} {number : ℕ} → Even m nb → ToAll (RowArc m nb) m s before after number → Found m s nb after
 found w (done e n d) v h = d.each v (pos 0) h
@@ -193,12 +177,6 @@ pub record Filling (m p : ℕ) (marks : List ℕ) (nb : Lists ℤ) (h before aft
   pub kept : KeptMemory m M M'
 
 module _ {m p : ℕ} {marks : List ℕ} {nb : Lists ℤ} {h before : List ℤ} (can : CanFill m p marks nb h before) where
-  pub fill_first : {M : Memory ℤ} → Filling m p marks nb h before before M M 0 0
-  fill_first = record { within = omega arith; count = refl; filled = record { long = refl; each = λ u v k b q e. absurd (omega arith); rest = λ x k. refl }; kept = memory_none }
-
   -- the rows may go on
   pub can_next : {after : List ℤ} → length after ≡ length before → CanFill m p marks nb h after
   can_next e = record { width = can.width; marked = can.marked; even = can.even; long = can.long; deep = can.deep; room = omega (arith, can.room) }
-
-  pub fill_last : {after : List ℤ} {M M' : Memory ℤ} {i u : ℕ} → Filling m p marks nb h before after M M' i u → m ≤ u → Filled m p m marks nb h before after
-  fill_last {after} {u} w k = let e : u ≡ m = omega (arith, w.within) in subst (λ (x : ℕ). Filled m p x marks nb h before after) e w.filled

@@ -19,16 +19,14 @@ use Rattle.net.proofs.Nodes.{node_marked, rank_of_rising, width_most}
 use Rattle.net.proofs.Totals.{total_within}
 use Rattle.rows.specs.Rows.{Lists, lists_of}
 use Rattle.rows.specs.Kept.{Kept}
-use Rattle.rows.proofs.Kept.{kept_none}
 use Rattle.turns.specs.Memory.{memory_of}
 use Rattle.turns.specs.Firsts.{KeptMemory}
 use Rattle.matrix.specs.Matrix.{square, Matrix}
 use Rattle.matrix.proofs.Matrix.{closed_up}
 use Rattle.johnson.specs.Promise.{Scratch, scratch_of}
-use Rattle.johnson.specs.Parts.{rank, CanFill, EntryShown, Filled, Ripe, Laid, Prepared, Passed, Solved}
+use Rattle.johnson.specs.Parts.{rank, CanFill, EntryShown, Filled, Laid, Prepared, Passed, Solved}
 use Rattle.johnson.proofs.Sweeps.{none_below}
 use Rattle.johnson.proofs.Shifts.{total_back}
-use Rattle.turns.proofs.Firsts.{memory_none}
 use Rattle.johnson.proofs.Lays.{same_rest, pot_deep, laid_even}
 
 -- ---- the matrix
@@ -76,23 +74,12 @@ module _ {g : Net ℤ} {matrix : List ℤ} {s : Scratch} (p : Passed g matrix s)
   abbrev m : ℕ
   m = g.bound
 
-  pub ripe_part : Ripe g s.rows (take m s.heights)
-  ripe_part = record { whole = p.whole; inside = p.inside; rows = p.room.rows; heights = length-take-le m s.heights p.room.heights }
-
   module _ {os hs : List ℕ} {ws part : List ℤ} {r : Bool} (w : Prepared g s.rows (lists_of os hs ws) part r) where
     abbrev heights : List ℤ
     heights = part ++ drop m s.heights
 
     pub heights_long : m ≡ length (take m heights)
     heights_long = part_long m heights (omega (arith, whole_long m s.heights part p.room.heights w.long, p.room.heights))
-
-    pub solved_yes : r ≡ true → Solved g matrix s matrix (record { rows = lists_of os hs ws; heights = heights; memory = s.memory }) true
-    solved_yes e = record {
-      kept = record { rows = w.kept; heights = kept_part m s.heights part p.room.heights w.long; memory = memory_none };
-      output = kept_none;
-      yes = λ q. w.yes e;
-      no = λ q. absurd (clash refl q);
-    }
 
     module _ (e : r ≡ false) {k : ℕ} (is : k ≡ width g) where
       few : width g ≤ 1024

@@ -1,4 +1,4 @@
--- The arcs of a table are those of its links, and the answer of `potentials` from its rounds and its test.
+-- The arcs of a table are those of its links, and the answer of `potentials` from its rounds.
 -- Assumes nothing.
 use mathlib.Core.Path.{◌≡◌, refl, sym, ap, ◌∙◌, subst}
 use mathlib.Core.Bool.{Bool, true, false}
@@ -6,20 +6,20 @@ use mathlib.Core.List.{List}
 use mathlib.Core.Logic.{◌⊎◌, inl, inr, ⊎_elim}
 use Prim.Native.Nat.{ℕ, zero, suc, ◌-◌, ◌*◌, ◌≤◌, ◌<◌, ◌^◌}
 use native.Mathlib.Omega.{arith}
-use native.Mathlib.Decide.{dec_lt}
 use lib.IntN.{ℤ, pos}
-use lib.Signed.{◌≤ℤ◌}
 use lib.ListN.{length, get_or, take}
-use Rattle.whole.specs.Zed.{◌⊕◌, N, zed, Cost32}
+use Rattle.whole.specs.Zed.{N, Cost32}
 use Rattle.table.specs.Links.{Link, link_of, zip3, joins, Arc}
 use Rattle.table.proofs.Laws.{zip_at, zip_long}
 use Rattle.table.proofs.Joins.{joined, joins_of}
 use Rattle.table.proofs.Arcs.{arc_at, arc_out}
 use Rattle.walks.specs.Walk.{stay, Negative}
 use Rattle.walks.specs.Costs.{Costs32}
-use Rattle.johnson.specs.Rounds.{label, lowers, Table, tail, head, cost, StillTo, Shallow, Linked, Improves, forth, back, RoundsDone, OpenTo, TestedAll}
+use Rattle.johnson.specs.Rounds.{label, lowers, Table, tail, head, cost, rounds, StillTo, Shallow, Linked, Improves, forth, back, OpenTo, Swept}
 use Rattle.johnson.specs.Potentials.{ArcsOf, Resting, Ask, Answered}
-use Rattle.johnson.proofs.Looks.{Came, lowers_below}
+use Rattle.whole.proofs.Cases.{clash}
+use Rattle.johnson.proofs.Looks.{Came}
+use Rattle.johnson.proofs.Steps.{Going, next_leaves, next_shallow}
 use Rattle.johnson.proofs.Sweeps.{Placed, Arcs, still_resting, each_cost, rounds_came, open_negative, settled_low}
 
 -- ---- the arcs of links, by place
@@ -63,40 +63,20 @@ module _ {m n : ℕ} {t : Table} (linked : Linked m n t) where
   table_arcs = record { there = λ k l. arc_of k l (tail t k) (head t k) (inl (refl, refl)); return = λ k l e. arc_of k l (head t k) (tail t k) (inr (e, refl, refl)); place = place n (omega arith) }
 
 -- ---- the answer
-module _ {t : Table} {n p : ℕ} {h h' : List ℤ} (ask : Ask t n p h) (done : RoundsDone t n p h h') where
+module _ {t : Table} {n p : ℕ} {h : List ℤ} (ask : Ask t n p h) where
   arcs : Arcs (ArcsOf t n) t n
   arcs = table_arcs ask.sound
 
-  -- an arc that lowers a potential after the rounds
-  open_arc : (u v : ℕ) (c : ℤ) → ArcsOf t n u v c → lowers u v c h' ≡ true → Negative (ArcsOf t n)
-  open_arc u v c a e = go (dec_lt done.made (p - 1))
-    where
-      go : Dec (done.made < p - 1) → Negative (ArcsOf t n)
-      go (yes l) =
-          let k : label h' v ≤ℤ label h' u ⊕ c = still_resting arcs h' (done.enough l) u v c a in
-          absurd (omega (arith, zed, lowers_below u v c h' e))
-      go (no f) =
-          open_negative ask.indices ask.ends arcs ask.sound h refl ask.zeros done.made (omega (arith, f, ask.many)) u v c a
-          (subst (λ (l : List ℤ). lowers u v c l ≡ true) done.leaves e)
-
-  -- the test found a link that lowers a potential
-  pub answer_yes : OpenTo t n h' → Answered t n p h h' true
-  answer_yes o = record { long = done.shallow.long; yes = λ e. go o.improves; no = λ e. absurd (let z : ◌≡◌ {A = ℕ} 0 1 = cc in omega arith) }
-    where
-      go : Improves t.directed (tail t o.at) (head t o.at) (cost t o.at) h' → Negative (ArcsOf t n)
-      go (forth e) = open_arc _ _ _ (arcs.there o.at o.within) e
-      go (back d e) = open_arc _ _ _ (arcs.return o.at o.within d) e
-
-  -- it found none
-  pub answer_no : StillTo t n h' → ((k : ℕ) → k < n → Cost32 (cost t k)) → Answered t n p h h' false
-  answer_no still small = record {
-    long = done.shallow.long;
-    yes = λ e. absurd (let z : ◌≡◌ {A = ℕ} 0 1 = cc in omega arith);
+  -- potentials that some rounds leave, and that no arc lowers
+  settled : {h' : List ℤ} (r : ℕ) {b : ℕ} → h' ≡ rounds t n r h → Shallow (length h) b h' → StillTo t n h' → ((k : ℕ) → k < n → Cost32 (cost t k)) → Answered t n p h h' false
+  settled {h'} r leaves shallow still small = record {
+    long = shallow.long;
+    yes = λ e. absurd (clash e refl);
     no = λ e.
         record {
           resting = resting;
-          high = done.shallow.high;
-          low = λ v. subst (λ (q : ℕ). N (label h' v) ≤ (q - 1) * 2 ^ 31) ask.many (settled_low ask.indices ask.ends h' resting came costs done.shallow.high v);
+          high = shallow.high;
+          low = λ v. subst (λ (q : ℕ). N (label h' v) ≤ (q - 1) * 2 ^ 31) ask.many (settled_low ask.indices ask.ends h' resting came costs shallow.high v);
           small = costs;
         };
   }
@@ -108,13 +88,27 @@ module _ {t : Table} {n p : ℕ} {h h' : List ℤ} (ask : Ask t n p h) (done : R
       costs = each_cost arcs Cost32 small
 
       came : Came (ArcsOf t n) h'
-      came = subst (Came (ArcsOf t n)) (sym done.leaves) (rounds_came arcs ask.sound h refl (λ x. (x, stay (ask.zeros x))) done.made)
+      came = subst (Came (ArcsOf t n)) (sym leaves) (rounds_came arcs ask.sound h refl (λ x. (x, stay (ask.zeros x))) r)
 
-  -- the answer of the test is the answer
-  pub answered : {r : Bool} → TestedAll t n h' r → Answered t n p h h' r
-  answered {r = true} w = answer_yes (w.improves refl)
-  answered {r = false} w = let q = w.still refl in answer_no q.0 q.1
+  module _ {h₁ : List ℤ} {i : ℕ} (g : Going t n p h h₁ i) where
+    -- an arc that lowers a potential after p - 1 rounds
+    open_arc : p ≤ i → (u v : ℕ) (c : ℤ) → ArcsOf t n u v c → lowers u v c h₁ ≡ true → Negative (ArcsOf t n)
+    open_arc l u v c a e =
+        open_negative ask.indices ask.ends arcs ask.sound h refl ask.zeros (i - 1) (omega (arith, ask.many)) u v c a
+        (subst (λ (k : List ℤ). lowers u v c k ≡ true) g.leaves e)
 
-  -- the test may be made
-  pub test_ready : Linked (length h') n t × Shallow (length h') (1024 * 16384) h'
-  test_ready = subst (λ (m : ℕ). Linked m n t × Shallow m (1024 * 16384) h') (sym done.shallow.long) (ask.sound, done.shallow)
+    open_link : p ≤ i → OpenTo t n h₁ → Negative (ArcsOf t n)
+    open_link l o = go o.improves
+      where
+        go : Improves t.directed (tail t o.at) (head t o.at) (cost t o.at) h₁ → Negative (ArcsOf t n)
+        go (forth e) = open_arc l _ _ _ (arcs.there o.at o.within) e
+        go (back d e) = open_arc l _ _ _ (arcs.return o.at o.within d) e
+
+    -- a round in which no potential fell
+    pub answer_no : {h₂ : List ℤ} {fell : Bool} → Swept t n h₁ h₂ fell → fell ≡ false → Answered t n p h h₂ false
+    answer_no w e = settled i (next_leaves g w) (next_shallow g w) (w.quiet e) w.small
+
+    -- the last round: did a potential fall?
+    pub answered : {h₂ : List ℤ} {fell : Bool} → Swept t n h₁ h₂ fell → p ≤ i → Answered t n p h h₂ fell
+    answered {fell = true} w l = record { long = (next_shallow g w).long; yes = λ e. open_link l (w.improves refl); no = λ e. absurd (clash refl e) }
+    answered {fell = false} w l = answer_no w refl

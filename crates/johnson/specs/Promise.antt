@@ -21,6 +21,10 @@ pub record Scratch : Type 0 where
 abbrev pub scratch_of : List ℕ → List ℕ → List ℤ → List ℤ → List ℤ → List ℕ → List ℕ → List ℕ → List ℤ → Scratch
 scratch_of o h w t d p q i k = record { rows = lists_of o h w; heights = t; memory = memory_of d p q i k }
 
+-- of a neighbour list, the potentials and what a search writes
+abbrev pub scratch : Lists ℤ → List ℤ → Memory ℤ → Scratch
+scratch l h m = record { rows = l; heights = h; memory = m }
+
 -- is each slice as long as the part used: p * p entries of the matrix, and 7m + 1 + 2a of scratch in all?
 unfoldable pub long_enough : ℕ → ℕ → ℕ → List ℤ → Scratch → Bool
 long_enough m a p matrix s =

@@ -1,9 +1,11 @@
 -- Potentials as lists: one arc, one link, one round over the links in table order, and some rounds, each in place.
 -- Assumes nothing.
-use Rattle.std.specs.Prelude.{◌≡◌, Bool, true, false, cond, List, ℕ, zero, suc, ◌+◌, ◌-◌, ◌*◌, ◌≤◌, ◌<◌, ◌^◌, ℤ, pos, ◌≤ℤ◌, length}
+use Rattle.std.specs.Prelude.{◌≡◌, Bool, true, false, cond, List, ℕ, zero, suc, ◌+◌, ◌*◌, ◌≤◌, ◌<◌, ◌^◌, ℤ, pos, ◌≤ℤ◌, length}
 use Rattle.std.specs.Prelude.{get_or, set}
 use Rattle.std.specs.Int.Signed.{lt_z}
 use Rattle.whole.specs.Zed.{◌⊕◌, P, N, Cost32}
+use Rattle.net.specs.declared.Lent.{Lent}
+use Rattle.net.specs.declared.Ints.{Ints}
 
 -- the potential of v
 abbrev pub label : List ℤ → ℕ → ℤ
@@ -30,6 +32,9 @@ pub record Table : Type 0 where
 
 abbrev pub table_of : Bool → List ℕ → List ℕ → List ℤ → Table
 table_of d xs ys cs = record { directed = d; tails = xs; heads = ys; costs = cs }
+
+abbrev pub table_in : Lent Ints → Table
+table_in l = table_of l.map.directed l.from.now l.to.now l.costs.costs.now
 
 -- the ends and the cost of the link at k
 abbrev pub tail : Table → ℕ → ℕ
@@ -84,35 +89,17 @@ pub record Deep (b : ℕ) (z : ℤ) : Type 0 where
   pub high : P z ≡ 0
   pub low : N z ≤ b
 
--- a look at a link: what it leaves, and whether a potential fell; its cost is one of 32 bits
-pub record LinkRelaxed (d : Bool) (u v : ℕ) (c : ℤ) (h h' : List ℤ) (fell : Bool) : Type 0 where
-  pub leaves : h' ≡ looked d u v c h
-  pub small : Cost32 c
-  pub quiet : fell ≡ false → (h' ≡ h) × Still d u v c h
-
--- an arc of the link lowers a potential, or none does
+-- an arc of the link lowers a potential
 pub data Improves (d : Bool) (u v : ℕ) (c : ℤ) (h : List ℤ) : Type 0 where
   forth : lowers u v c h ≡ true → Improves d u v c h
   back : d ≡ false → lowers v u c h ≡ true → Improves d u v c h
 
--- the test of a link
-pub record Tested (d : Bool) (u v : ℕ) (c : ℤ) (h : List ℤ) (answer : Bool) : Type 0 where
-  pub improves : answer ≡ true → Improves d u v c h
-  pub still : answer ≡ false → Still d u v c h × Cost32 c
-
--- a round over n links, at most 8192, so of at most 16384 looks
-pub record Swept (t : Table) (n : ℕ) (h h' : List ℤ) (fell : Bool) : Type 0 where
-  pub leaves : h' ≡ swept t n h
-  pub shallow : (k : ℕ) → Shallow (length h) k h → Shallow (length h) (k + 16384) h'
-  pub quiet : fell ≡ false → StillTo t n h'
-
--- every round: as many as p - 1, or fewer and then no arc lowers a potential
-pub record RoundsDone (t : Table) (n p : ℕ) (h h' : List ℤ) : Type 0 where
-  pub made : ℕ
-  pub leaves : h' ≡ rounds t n made h
-  pub shallow : Shallow (length h) (1024 * 16384) h'
-  pub few : made ≤ p - 1
-  pub enough : made < p - 1 → StillTo t n h'
+-- a look at a link: what it leaves, and whether a potential fell; its cost is one of 32 bits
+pub record LinkRelaxed (d : Bool) (u v : ℕ) (c : ℤ) (h h' : List ℤ) (fell : Bool) : Type 0 where
+  pub leaves : h' ≡ looked d u v c h
+  pub small : Cost32 c
+  pub improves : fell ≡ true → Improves d u v c h
+  pub quiet : fell ≡ false → (h' ≡ h) × Still d u v c h
 
 -- a link among the first k that lowers a potential
 pub record OpenTo (t : Table) (k : ℕ) (h : List ℤ) : Type 0 where
@@ -120,7 +107,10 @@ pub record OpenTo (t : Table) (k : ℕ) (h : List ℤ) : Type 0 where
   pub within : at < k
   pub improves : Improves t.directed (tail t at) (head t at) (cost t at) h
 
--- the test of the first n links
-pub record TestedAll (t : Table) (n : ℕ) (h : List ℤ) (answer : Bool) : Type 0 where
-  pub improves : answer ≡ true → OpenTo t n h
-  pub still : answer ≡ false → StillTo t n h × ((k : ℕ) → k < n → Cost32 (cost t k))
+-- a round over n links, at most 8192, so of at most 16384 looks
+pub record Swept (t : Table) (n : ℕ) (h h' : List ℤ) (fell : Bool) : Type 0 where
+  pub leaves : h' ≡ swept t n h
+  pub shallow : (k : ℕ) → Shallow (length h) k h → Shallow (length h) (k + 16384) h'
+  pub small : (k : ℕ) → k < n → Cost32 (cost t k)
+  pub improves : fell ≡ true → OpenTo t n h
+  pub quiet : fell ≡ false → StillTo t n h'

@@ -1,6 +1,6 @@
 -- Text that is put at a place of a buffer, and the texts of numbers.
 -- Assumes nothing.
-use Rattle.std.specs.Prelude.{ℕ, zero, suc, ◌+◌, ◌/◌, ◌%◌, ◌≡◌, Bool, true, false, cond, List, [], ◌∷◌, ◌++◌, ltb, ℤ, pos, negsuc}
+use Rattle.std.specs.Prelude.{ℕ, zero, suc, ◌+◌, ◌/◌, ◌%◌, ◌≡◌, cond, List, [], ◌∷◌, ◌++◌, ltb, ℤ, pos, negsuc}
 use Rattle.std.specs.Prelude.{length, take, drop}
 
 -- the buffer with a text at a place, the rest as it was
@@ -24,11 +24,6 @@ decimal (suc k) n = cond (ltb n 10) ((48 + n) ∷ []) (decimal k (n / 10) ++ ((4
 -- a 64-bit number in decimal
 unfoldable pub decimal_text : ℕ → List ℕ
 decimal_text n = decimal 20 n
-
--- is a signed number below zero?
-abbrev pub below_zero : ℤ → Bool
-below_zero (pos n) = false
-below_zero (negsuc n) = true
 
 -- a signed 64-bit number in decimal
 unfoldable pub signed_text : ℤ → List ℕ

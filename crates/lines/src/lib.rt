@@ -2,10 +2,9 @@
 // Each function puts its text at a place of the buffer and gives the place after it.
 #![tactic(auto)]
 
-ghost use Rattle.std.specs.Prelude.{◌≡◌, ℕ, ◌+◌, ◌≤◌, ◌<◌, ◌^◌, true, false, [], ◌∷◌, length, take};
-ghost use Rattle.std.specs.Int.Signed.{mag};
-ghost use Rattle.lines.specs.Text.{Printed, glyph as glyphOf, decimal, decimal_text, signed_text};
-ghost use Rattle.lines.specs.Text.{below_zero, hex, hex_text, space_text, newline_text};
+ghost use Rattle.std.specs.Prelude.{◌≡◌, ℕ, ◌+◌, ◌≤◌, ◌<◌, ◌^◌, [], ◌∷◌, length, take};
+ghost use Rattle.lines.specs.Text.{Printed, glyph as glyphOf, decimal, decimal_text, signed_text, hex, hex_text, space_text};
+ghost use Rattle.lines.specs.Text.{newline_text};
 
 // The fixed words, each put by `put_bytes`.
 pub const NONE: [u8; 4] = *b"none";
@@ -29,12 +28,9 @@ pub fn put_bytes(out: &mut [u8], at: usize, text: &[u8]) -> usize
     requires { at + length text.now ≤ length out.old }
     ensures { Printed out.old at text.now out.new result }
 {
-    let mut i: usize = 0;
-    while i < text.len() {
-        out[at + i] = text[i];
-        i += 1;
-    }
-    at + i
+    let next = at + text.len();
+    out[at..next].copy_from_slice(text);
+    next
 }
 
 // The digit of a number below 16.
@@ -44,9 +40,10 @@ fn glyph(d: u64) -> u8
     ensures { result ≡ glyphOf d }
 {
     if d < 10 {
-        return (48 + d) as u8;
+        b'0' + d as u8
+    } else {
+        b'a' + (d - 10) as u8
     }
-    (87 + d) as u8
 }
 
 // Puts one byte at a place.
@@ -65,10 +62,11 @@ fn put_digits(out: &mut [u8], at: usize, n: u64, places: usize) -> usize
     ensures { Printed out.old at (decimal places n) out.new result }
 {
     if n < 10 {
-        return put_byte(out, at, (48 + n) as u8);
+        put_byte(out, at, b'0' + n as u8)
+    } else {
+        let next = put_digits(out, at, n / 10, places - 1);
+        put_byte(out, next, b'0' + (n % 10) as u8)
     }
-    let next = put_digits(out, at, n / 10, places - 1);
-    put_byte(out, next, (48 + n % 10) as u8)
 }
 
 // Puts the last hex digits of a number, as many as places says.
@@ -77,10 +75,11 @@ fn put_hex_digits(out: &mut [u8], at: usize, n: u64, places: usize) -> usize
     ensures { Printed out.old at (hex places n) out.new result }
 {
     if places == 0 {
-        return at;
+        at
+    } else {
+        let next = put_hex_digits(out, at, n / 16, places - 1);
+        put_byte(out, next, glyph(n % 16))
     }
-    let next = put_hex_digits(out, at, n / 16, places - 1);
-    put_byte(out, next, glyph(n % 16))
 }
 
 // Puts an unsigned number in decimal.
@@ -91,39 +90,13 @@ pub fn put_decimal(out: &mut [u8], at: usize, n: u64) -> usize
     put_digits(out, at, n, 20)
 }
 
-// Is a signed number below zero?
-fn below_zero(n: i64) -> bool
-    ensures { result ≡ below_zero n }
-{
-    n < 0
-}
-
-// The size of a number that is not below zero.
-fn size_from(n: i64) -> u64
-    requires { below_zero n ≡ false }
-    ensures { result ≡ mag n }
-{
-    n as u64
-}
-
-// The size of a number below zero.
-fn size_below(n: i64) -> u64
-    requires { below_zero n ≡ true }
-    ensures { result ≡ mag n + 1 }
-{
-    ((-1 - n) as u64) + 1
-}
-
 // Puts a signed number in decimal.
 pub fn put_signed(out: &mut [u8], at: usize, n: i64) -> usize
     requires { at + length (signed_text n) ≤ length out.old }
     ensures { Printed out.old at (signed_text n) out.new result }
 {
-    if below_zero(n) {
-        let next = put_byte(out, at, 45);
-        return put_decimal(out, next, size_below(n));
-    }
-    put_decimal(out, at, size_from(n))
+    let digits = if n < 0 { put_byte(out, at, b'-') } else { at };
+    put_decimal(out, digits, n.unsigned_abs())
 }
 
 // Puts the 16 hex digits of a number.

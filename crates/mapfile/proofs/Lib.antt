@@ -1,5 +1,5 @@
-pub mod Costs
-pub mod Steps
+pub mod Bytes
 pub mod Keeps
 pub mod Loads
 pub mod Offsets
+pub mod Engines

@@ -5,11 +5,11 @@ use mathlib.Core.Bool.{Bool, true, false, cond}
 use mathlib.Core.List.{List}
 use Prim.Native.Nat.{ℕ, zero, suc, ◌+◌, ◌-◌, ◌≤◌, ◌<◌}
 use native.Mathlib.Omega.{arith}
-use borrow.Author.Tests.{lt-ltb, le-ltb, ltb-true}
+use borrow.Author.Tests.{lt-ltb, le-ltb}
 use lib.Dec.{ltb}
 use lib.IntN.{ℤ}
 use lib.ListN.{length}
-use Rattle.mapfile.specs.Load.{start_reading, broken_at, State, state_of, one_step, read_on, loaded}
+use Rattle.mapfile.specs.Load.{start_reading, broken_at, State, state_of, goes_on, one_step, read_on, loaded}
 use Rattle.mapfile.specs.declared.Reading.{Reading}
 use Rattle.whole.proofs.Cases.{by_test}
 use Rattle.mapfile.proofs.Keeps.{keeps_step}
@@ -30,12 +30,12 @@ pub record Going (limit : ℕ) (file : List ℕ) (s₀ s : State) : Type 0 where
   pub bounded : s.reading.bound ≤ length s.marks
   pub even : Even s₀ s
   pub turns : ℕ
-  pub enough : s.reading.stage < 3 → length file < s.reading.at + turns
+  pub enough : goes_on s.reading.stage ≡ true → length file < s.reading.at + turns
   pub same : read_on (length file + 1) file s₀ ≡ read_on turns file s
 
 -- what is left of the file, while the reading goes on
 pub rest : List ℕ → Reading → ℕ
-rest file w = cond (ltb w.stage 3) (suc (length file) - w.at) 0
+rest file w = cond (goes_on w.stage) (suc (length file) - w.at) 0
 
 -- before the first record
 pub going_start : {limit : ℕ} {file : List ℕ} {w : Reading} {ms xs ys : List ℕ} {cs : List ℤ} {bs os : List ℕ} → w ≡ start_reading → length file ≤ limit
@@ -53,11 +53,11 @@ going_start {limit} {file} {w} {ms} {xs} {ys} {cs} {bs} {os} e h =
     })
 
 -- a reading that goes on has a turn left, and takes it
-turn : (k : ℕ) (file : List ℕ) (s : State) → 0 < k → s.reading.stage < 3 → read_on k file s ≡ read_on (k - 1) file (one_step file s)
+turn : (k : ℕ) (file : List ℕ) (s : State) → 0 < k → goes_on s.reading.stage ≡ true → read_on k file s ≡ read_on (k - 1) file (one_step file s)
 turn zero file s p h = absurd (omega arith)
-turn (suc k) file s p h = let e : suc k - 1 ≡ k = omega arith in rw e (simp (lt-ltb _ _ h))
+turn (suc k) file s p h = let e : suc k - 1 ≡ k = omega arith in rw e (simp h)
 
-module _ {limit : ℕ} {file : List ℕ} {s₀ s t : State} (g : Going limit file s₀ s) (h : s.reading.stage < 3) (e : t ≡ one_step file s) where
+module _ {limit : ℕ} {file : List ℕ} {s₀ s t : State} (g : Going limit file s₀ s) (h : goes_on s.reading.stage ≡ true) (e : t ≡ one_step file s) where
   -- a turn of the loop
   pub going_on : Even s t → Going limit file s₀ t
   going_on v =
@@ -84,24 +84,23 @@ module _ {limit : ℕ} {file : List ℕ} {s₀ s t : State} (g : Going limit fil
   pub rest_falls : rest file t.reading < rest file s.reading
   unfolding rest
   rest_falls =
-      rw (lt-ltb _ _ h) (by_stage (ltb t.reading.stage 3) refl)
+      rw h (by_stage (goes_on t.reading.stage) refl)
     where
-      by_stage : (b : Bool) → ltb t.reading.stage 3 ≡ b → cond b (suc (length file) - t.reading.at) 0 < suc (length file) - s.reading.at
+      by_stage : (b : Bool) → goes_on t.reading.stage ≡ b → cond b (suc (length file) - t.reading.at) 0 < suc (length file) - s.reading.at
       by_stage true q =
           let o = keeps_step file s g.within g.bounded in
-          let z : t.reading.stage < 3 = ltb-true t.reading.stage 3 q in
-          let n : s.reading.at < t.reading.at = rw e (o.further (rw e at z)) in
+          let n : s.reading.at < t.reading.at = rw e (o.further (rw e at q)) in
           let m : t.reading.at ≤ length file = rw e o.within in
           omega arith
       by_stage false q = omega (arith, g.within)
 
 -- the end of the loop
-stopped : (k : ℕ) (file : List ℕ) (s : State) → 3 ≤ s.reading.stage → read_on k file s ≡ s
+stopped : (k : ℕ) (file : List ℕ) (s : State) → goes_on s.reading.stage ≡ false → read_on k file s ≡ s
 stopped zero file s h = refl
-stopped (suc k) file s h = simp (le-ltb _ _ h)
+stopped (suc k) file s h = simp h
 
 module _ (limit : ℕ) (file ms xs ys : List ℕ) (cs : List ℤ) (bs os : List ℕ) where
-  pub going_end : {s : State} → Going limit file (state_of start_reading ms xs ys cs bs os) s → 3 ≤ s.reading.stage → s ≡ loaded limit file ms xs ys cs bs os
+  pub going_end : {s : State} → Going limit file (state_of start_reading ms xs ys cs bs os) s → goes_on s.reading.stage ≡ false → s ≡ loaded limit file ms xs ys cs bs os
   unfolding loaded
   going_end {s} g h = simp (le-ltb limit (length file) g.short) (sym (g.same ∙ stopped g.turns file s h))
 
@@ -116,7 +115,7 @@ read_on_bounded zero file s h f = f
 read_on_bounded (suc k) file s h f =
     let o = keeps_step file s h f in
     let l : (one_step file s).reading.bound ≤ length (one_step file s).marks = omega (arith, o.bounded, o.even) in
-    by_test (λ (t : State). t.reading.bound ≤ length s.marks) (ltb s.reading.stage 3) _ _ (λ _. omega (arith, read_on_bounded k file (one_step file s) o.within l, o.even)) (λ _. f)
+    by_test (λ (t : State). t.reading.bound ≤ length s.marks) (goes_on s.reading.stage) _ _ (λ _. omega (arith, read_on_bounded k file (one_step file s) o.within l, o.even)) (λ _. f)
 
 pub loaded_bounded : (limit : ℕ) (file ms xs ys : List ℕ) (cs : List ℤ) (bs os : List ℕ) → (loaded limit file ms xs ys cs bs os).reading.bound ≤ length ms
 unfolding loaded

@@ -10,24 +10,29 @@ use Rattle.clean.specs.Fill.{filled}
 use Rattle.table.specs.Links.{same_pair, joins_ends, present, present_both, lent_whole, table_no, place_at, placing}
 use Rattle.table.specs.Lent.{shorter, room_ints, room_floats, store_ints, put_ints, store_floats, put_floats}
 use Rattle.mapfile.specs.Bytes.{u16_at, u32_at, u64_at, cost_of}
-use Rattle.mapfile.specs.Records.{head_at, absent_at, link_at, float_link_at, ask_at, kind_at, record_at}
-use Rattle.mapfile.specs.Load.{head_step, absent_step, link_may, after_put, link_step, float_step, engine_may, ask_step, one_step, loaded}
+use Rattle.mapfile.specs.Records.{head_at, float_link_at, kind_at, record_at}
+use Rattle.mapfile.specs.Engines.{engine_of}
+use Rattle.mapfile.specs.declared.Engine.{Engine}
+use Rattle.mapfile.specs.declared.Engine.TheVariants.{Dijkstra, BellmanFord, Hops, DijkstraPath}
+use Rattle.mapfile.specs.declared.Stage.{Stage}
+use Rattle.mapfile.specs.declared.Stage.TheVariants.{Bad, Asked}
+use Rattle.mapfile.specs.Load.{head_step, absent_step, link_may, after_put, link_step, float_step, ask_step, one_step, loaded}
 
 -- a file, and the stage and the offset at which its reading ends
 pub record Case : Type 0 where
   pub file : List ℕ
-  pub stage : ℕ
+  pub stage : Stage
   pub at : ℕ
 
-abbrev ends : ℕ → ℕ → List ℕ → Case
+abbrev ends : Stage → ℕ → List ℕ → Case
 ends x k f = record { file = f; stage = x; at = k }
 
--- a rule is broken at k; the ask at k is read
+-- a rule is broken at k; the ask at k is read, for an engine and from 0 to 0
 abbrev bad : ℕ → List ℕ → Case
-bad k f = ends 3 k f
+bad k f = ends Bad k f
 
-abbrev good : ℕ → List ℕ → Case
-good k f = ends 4 k f
+abbrev good : Engine → ℕ → List ℕ → Case
+good e k f = ends (Asked (record { engine = e; source = 0; target = 0 })) k f
 
 -- the reading of a case's file
 abbrev reading : Case → Case
@@ -58,10 +63,10 @@ ask e = 7 ∷ 0 ∷ 5 ∷ 0 ∷ e ∷ 0 ∷ 0 ∷ 0 ∷ 0 ∷ []
 -- sound files
 abbrev sound : List Case
 sound =
-    good 8 (head ++ ask 1)
-    ∷ good 26 (head ++ absent ++ (10 ∷ 0 ∷ 3 ∷ 0 ∷ 0 ∷ 0 ∷ 0 ∷ 0 ∷ 0 ∷ 0 ∷ 0 ∷ 0 ∷ []) ++ ask 2)
-    ∷ good 25 (head_float ++ link_float ++ ask 7)
-    ∷ good 32 (head ++ link ++ link ++ ask 6)
+    good Dijkstra 8 (head ++ ask 1)
+    ∷ good BellmanFord 26 (head ++ absent ++ (10 ∷ 0 ∷ 3 ∷ 0 ∷ 0 ∷ 0 ∷ 0 ∷ 0 ∷ 0 ∷ 0 ∷ 0 ∷ 0 ∷ []) ++ ask 2)
+    ∷ good DijkstraPath 25 (head_float ++ link_float ++ ask 7)
+    ∷ good Hops 32 (head ++ link ++ link ++ ask 6)
     ∷ []
 
 -- an empty file, no head first, a head cut short, of a wrong length, with too many indices, or with a flag above 1
@@ -124,6 +129,6 @@ asks =
 -- every one of them ends so
 pub offsets : map reading (sound ++ first ++ no_ask ++ shapes ++ places ++ puts ++ asks) ≡ sound ++ first ++ no_ask ++ shapes ++ places ++ puts ++ asks
 unfolding filled same_pair joins_ends present present_both lent_whole table_no place_at placing shorter room_ints room_floats store_ints put_ints store_floats
-    put_floats u16_at u32_at u64_at cost_of head_at absent_at
-    link_at float_link_at ask_at kind_at record_at head_step absent_step link_may after_put link_step float_step engine_may ask_step one_step loaded
+    put_floats u16_at u32_at u64_at cost_of head_at
+    float_link_at kind_at record_at head_step absent_step link_may after_put link_step float_step engine_of ask_step one_step loaded
 offsets = refl

@@ -1,4 +1,5 @@
 pub mod Bytes
 pub mod Records
+pub mod Engines
 pub mod Load
 pub mod Parts

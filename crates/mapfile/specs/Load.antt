@@ -3,79 +3,53 @@
 -- A file may have as many bytes as a limit says, a map as many indices as there are marks,
 -- and as many links as the lent tables have room for.
 -- Assumes nothing.
-use Rattle.std.specs.Prelude.{ℕ, zero, suc, ◌+◌, Bool, true, false, cond, not, ◌&&◌, ◌||◌, List, leb, ltb, eqb, ℤ, length, set}
+use Rattle.std.specs.Prelude.{ℕ, zero, suc, ◌+◌, Bool, true, false, cond, not, ◌&&◌, List, leb, ltb, eqb, ℤ, length, set, Result, Ok, Err}
 use Rattle.clean.specs.Fill.{filled}
 use Rattle.table.specs.Links.{link_of}
 use Rattle.table.specs.Lent.{Ints, put_ints, Floats, raw_cost, put_floats}
 use Rattle.mapfile.specs.Records.{record_at}
+use Rattle.mapfile.specs.Engines.{engine_of, has_engine}
+use Rattle.mapfile.specs.declared.Engine.{Engine}
+use Rattle.mapfile.specs.declared.Stage.{Stage}
+use Rattle.mapfile.specs.declared.Stage.TheVariants.{Start, Headed, Linked, Bad, Asked}
 use Rattle.mapfile.specs.declared.Reading.{Reading}
 use Rattle.mapfile.specs.declared.Record.{Record}
 use Rattle.mapfile.specs.declared.Record.TheVariants.{End, Broken, Head, Absent, Link, FloatLink, Ask}
 
--- the stages of a reading: 0 before the first record, 1 after the head, 2 after a link, 3 a rule is broken at `at`, 4 asked
+-- is a reading before the first record, and is it after the head and before the links?
+abbrev pub at_start : Stage → Bool
+at_start Start = true
+at_start _ = false
+
+abbrev pub at_head : Stage → Bool
+at_head Headed = true
+at_head _ = false
+
+-- no rule is broken yet, and the ask is not read
+abbrev pub goes_on : Stage → Bool
+goes_on Bad = false
+goes_on (Asked q) = false
+goes_on _ = true
+
 -- before the first record
 abbrev pub start_reading : Reading
-start_reading = record { stage = 0; at = 0; bound = 0; count = 0; directed = false; float = false; engine = 0; source = 0; target = 0 }
+start_reading = record { stage = Start; at = 0; bound = 0; count = 0; directed = false; float = false }
 
 -- a rule is broken at an offset
 abbrev pub broken_at : ℕ → Reading → Reading
-broken_at k w =
-    record {
-      stage = 3;
-      at = k;
-      bound = w.bound;
-      count = w.count;
-      directed = w.directed;
-      float = w.float;
-      engine = w.engine;
-      source = w.source;
-      target = w.target;
-    }
+broken_at k w = record w { stage = Bad; at = k }
 
 -- past a record of n bytes, at a stage and with a count of links
-abbrev pub onward : ℕ → ℕ → ℕ → Reading → Reading
-onward stage' n count' w =
-    record {
-      stage = stage';
-      at = w.at + n;
-      bound = w.bound;
-      count = count';
-      directed = w.directed;
-      float = w.float;
-      engine = w.engine;
-      source = w.source;
-      target = w.target;
-    }
+abbrev pub onward : Stage → ℕ → ℕ → Reading → Reading
+onward stage' n count' w = record w { stage = stage'; at = w.at + n; count = count' }
 
 -- past the head, whose map has no links yet
 abbrev pub headed : ℕ → Bool → Bool → Reading → Reading
-headed m d f w =
-    record {
-      stage = 1;
-      at = w.at + 8;
-      bound = m;
-      count = 0;
-      directed = d;
-      float = f;
-      engine = w.engine;
-      source = w.source;
-      target = w.target;
-    }
+headed m d f w = record { stage = Headed; at = w.at + 8; bound = m; count = 0; directed = d; float = f }
 
 -- asked
-abbrev pub asked : ℕ → ℕ → ℕ → Reading → Reading
-asked e s t w =
-    record {
-      stage = 4;
-      at = w.at;
-      bound = w.bound;
-      count = w.count;
-      directed = w.directed;
-      float = w.float;
-      engine = e;
-      source = s;
-      target = t;
-    }
+abbrev pub asked : Engine → ℕ → ℕ → Reading → Reading
+asked e s t w = record w { stage = Asked (record { engine = e; source = s; target = t }) }
 
 -- a reading and the lent tables
 pub record State : Type 0 where
@@ -106,22 +80,22 @@ broken s = with_reading (broken_at s.reading.at s.reading) s
 -- kind 1: the first record, with no more indices than there are marks; every index below m is then present
 unfoldable pub head_step : ℕ → Bool → Bool → State → State
 head_step m d f s =
-    cond (eqb s.reading.stage 0 && leb m (length s.marks))
+    cond (at_start s.reading.stage && leb m (length s.marks))
     (with_marks (headed m d f s.reading) (filled m 1 s.marks) s) (broken s)
 
 -- kind 2: after the head and before the links, an index below m
 unfoldable pub absent_step : ℕ → State → State
 absent_step i s =
-    cond (eqb s.reading.stage 1 && ltb i s.reading.bound)
-    (with_marks (onward 1 6 s.reading.count s.reading) (set s.marks i 0) s) (broken s)
+    cond (at_head s.reading.stage && ltb i s.reading.bound)
+    (with_marks (onward Headed 6 s.reading.count s.reading) (set s.marks i 0) s) (broken s)
 
 -- a link may stand after the head, in a map of its kind
 unfoldable pub link_may : Bool → Reading → Bool
-link_may f w = ltb 0 w.stage && cond f w.float (not w.float)
+link_may f w = not (at_start w.stage) && cond f w.float (not w.float)
 
 -- after a put with a number and a count: past a record of n bytes, or broken where the put is refused
 unfoldable pub after_put : ℕ → ℕ → ℕ → Reading → Reading
-after_put n number count' w = cond (eqb number 0) (onward 2 n count' w) (broken_at w.at w)
+after_put n number count' w = cond (eqb number 0) (onward Linked n count' w) (broken_at w.at w)
 
 -- what a put leaves in the tables of an integer map
 abbrev pub with_ints : Ints → State → State
@@ -148,15 +122,15 @@ float_step a b x o s =
     s.bits s.opens) s)
     (broken s)
 
--- an engine that the map's kind has: 1 to 5 an integer map, 7 an f64 map, 6 either
-unfoldable pub engine_may : ℕ → Bool → Bool
-engine_may e f = eqb e 6 || cond f (eqb e 7) (leb 1 e && leb e 5)
-
 -- kind 5: after the head, an engine for the map's kind, and nothing after it; len is the file's length
-unfoldable pub ask_step : ℕ → ℕ → ℕ → ℕ → Reading → Reading
-ask_step len e s t w =
-    cond (ltb 0 w.stage && engine_may e w.float)
+abbrev pub ask_engine : ℕ → Result Engine ℕ → ℕ → ℕ → Reading → Reading
+ask_engine len (Ok e) s t w =
+    cond (has_engine e w.float)
     (cond (ltb (w.at + 9) len) (broken_at (w.at + 9) w) (asked e s t w)) (broken_at w.at w)
+ask_engine len (Err n) s t w = broken_at w.at w
+
+unfoldable pub ask_step : ℕ → ℕ → ℕ → ℕ → Reading → Reading
+ask_step len e s t w = cond (at_start w.stage) (broken_at w.at w) (ask_engine len (engine_of e) s t w)
 
 -- what a record makes of the state; a file that ends before its ask is broken at its length
 abbrev pub take_record : Record → ℕ → State → State
@@ -175,7 +149,7 @@ one_step file s = take_record (record_at file s.reading.at) (length file) s
 -- at most k records, until a rule is broken or the ask is read
 abbrev pub read_on : ℕ → List ℕ → State → State
 read_on zero file s = s
-read_on (suc k) file s = cond (ltb s.reading.stage 3) (read_on k file (one_step file s)) s
+read_on (suc k) file s = cond (goes_on s.reading.stage) (read_on k file (one_step file s)) s
 
 -- the whole reading: a record takes a byte or more, so that there are no more records than bytes;
 -- a file over the limit is broken at the limit

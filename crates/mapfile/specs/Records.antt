@@ -13,11 +13,11 @@ head_at s k =
     Broken
 
 -- kind 2: index 16
-unfoldable pub absent_at : List ℕ → ℕ → Record
+abbrev pub absent_at : List ℕ → ℕ → Record
 absent_at s k = Absent (u16_at s k)
 
 -- kind 3: ends 16, 16; cost 32
-unfoldable pub link_at : List ℕ → ℕ → Record
+abbrev pub link_at : List ℕ → ℕ → Record
 link_at s k = Link (u16_at s k) (u16_at s (k + 2)) (cost_of (u32_at s (k + 4)))
 
 -- kind 4: ends 16, 16; bits 64; open 8, 0 or 1
@@ -26,7 +26,7 @@ float_link_at s k =
     cond (leb (get_or s (k + 12) 0) 1) (FloatLink (u16_at s k) (u16_at s (k + 2)) (u64_at s (k + 4)) (get_or s (k + 12) 0)) Broken
 
 -- kind 5: engine 8; source 16; target 16
-unfoldable pub ask_at : List ℕ → ℕ → Record
+abbrev pub ask_at : List ℕ → ℕ → Record
 ask_at s k = Ask (get_or s k 0) (u16_at s (k + 1)) (u16_at s (k + 3))
 
 -- a record of length n (kind and body) and of a kind, whose body stands at k: its length is its kind's

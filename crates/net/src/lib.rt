@@ -67,8 +67,8 @@ pub trait Costs: Copy {
     // The room that these slices and those of the ends leave.
     ghost room: { List ℕ → List ℕ → Self → ℕ };
 
-    fn room(self, from: &[u16], to: &[u16]) -> usize
-        ensures { result ≡ room from.now to.now self };
+    fn room(&self, from: &[u16], to: &[u16]) -> usize
+        ensures { result ≡ room from.now to.now self.now };
 
     // So many links have their place in each slice.
     ghost fits: { (xs ys : List ℕ) (c : Self) → Room (room xs ys c) xs ys (length (listed c)) };
@@ -89,7 +89,7 @@ impl<'a> Costs for Ints<'a> {
 
     ghost fits = { λ xs ys c. room_ints_lem xs ys c.costs.now };
 
-    fn room(self, from: &[u16], to: &[u16]) -> usize {
+    fn room(&self, from: &[u16], to: &[u16]) -> usize {
         table::room(from, to, self.costs)
     }
 }
@@ -110,7 +110,7 @@ impl<'a> Costs for Floats<'a> {
 
     ghost fits = { λ xs ys c. room_floats_lem xs ys c.bits.now c.opens.now };
 
-    fn room(self, from: &[u16], to: &[u16]) -> usize {
+    fn room(&self, from: &[u16], to: &[u16]) -> usize {
         table::room_f64(from, to, self.bits, self.opens)
     }
 }
@@ -127,17 +127,17 @@ pub struct Lent<'a, C> {
 
 impl<'a, C: Costs> Lent<'a, C> {
     // Does it keep the limits, with slices that are long enough?
-    pub fn whole(self) -> bool
-        ensures { result ≡ whole_net (net_in C.listed C.room self.entry) }
+    pub fn whole(&self) -> bool
+        ensures { result ≡ whole_net (net_in C.listed C.room self.now) }
     {
         let room = self.costs.room(self.from, self.to);
         table::lent_whole(self.map.bound, self.map.count, room, self.marks)
     }
 
     // Does each link name indices that the map has?
-    pub fn inside(self) -> bool
-        requires { whole_net (net_in C.listed C.room self) ≡ true }
-        ensures { result ≡ inside_net (net_in C.listed C.room self.entry) }
+    pub fn inside(&self) -> bool
+        requires { whole_net (net_in C.listed C.room self.now) ≡ true }
+        ensures { result ≡ inside_net (net_in C.listed C.room self.now) }
     {
         table::all_inside(
             self.map.bound,
@@ -150,9 +150,9 @@ impl<'a, C: Costs> Lent<'a, C> {
 
     // a: the room that its arcs may take.
     #[tactic(auto, unfolding(crate::specs::Net::most_arcs))]
-    pub fn most_arcs(self) -> usize
-        requires { self.map.count ≤ 8192 }
-        ensures { result ≡ most_arcs self.entry.map.directed self.entry.map.count }
+    pub fn most_arcs(&self) -> usize
+        requires { self.now.map.count ≤ 8192 }
+        ensures { result ≡ most_arcs self.now.map.directed self.now.map.count }
     {
         let count = self.map.count;
         if self.map.directed {
@@ -163,9 +163,9 @@ impl<'a, C: Costs> Lent<'a, C> {
     }
 
     // Does it have the index i, which may be any number?
-    pub fn has(self, i: usize) -> bool
-        requires { self.map.bound ≤ length self.marks.now }
-        ensures { result ≡ present self.entry.map.bound self.entry.marks.now i }
+    pub fn has(&self, i: usize) -> bool
+        requires { self.now.map.bound ≤ length self.now.marks.now }
+        ensures { result ≡ present self.now.map.bound self.now.marks.now i }
     {
         table::is_present(self.map.bound, self.marks, i)
     }

@@ -2,19 +2,22 @@
 -- What holds of every table of numbers (crate numbers) gives this, row by row. No arc leads to an index that the map has not, so a page with a distance there is
 -- wrong. Maps with the same arcs call the same pages right.
 -- Assumes nothing.
-use mathlib.Core.Path.{◌≡◌, refl, subst}
+use mathlib.Core.Path.{◌≡◌, refl, sym, ap, subst}
 use mathlib.Core.Bool.{Bool, true, false}
 use mathlib.Core.List.{List}
 use mathlib.Core.Logic.{◌↔◌}
 use Prim.Native.Nat.{ℕ, ◌<◌}
 use lib.IntN.{ℤ}
+use Rattle.std.specs.Prelude.{Result, Ok, Err}
 use Rattle.whole.proofs.Cases.{clash}
 use Rattle.numbers.specs.Numbers.{here, past, Follows, At, Given}
 use Rattle.numbers.specs.Over.{Over}
 use Rattle.numbers.proofs.Numbers.{◌then◌, is_one, follows_one, exactly, given, follows_over, itself}
+use Rattle.numbers.specs.declared.Refusal.{Refusal}
+use Rattle.numbers.proofs.Refused.{refused_ne0, refusal_one}
 use Rattle.net.specs.Net.{Net, ArcOf, inside_net, has, SameNet}
 use Rattle.net.proofs.Same.{same_back, same_inside, arc_has}
-use Rattle.page.specs.Promise.{Known, Right, enough, Answer, answer_of, table, Promise}
+use Rattle.page.specs.Promise.{Known, Right, enough, Answer, answer_of, answer_in, table, Promise}
 use Rattle.page.proofs.Marks.{meets_over}
 
 module _ {g : Net ℤ} {s : ℕ} {page : List ℤ} where
@@ -44,6 +47,13 @@ module _ {g : Net ℤ} {s : ℕ} {page : List ℤ} where
         go (past l (past i (past h (here w x)))) = (λ z. (l, i, h, w), λ z. x.1)
         go (past l (past i (past h (past w (here t x))))) = (λ z. absurd (clash z x.1), λ z. absurd (w z.3))
         go (past l (past i (past h (past w (past t x))))) = absurd x
+
+-- ---- what a call gives is told by its answer
+pub answer_one : (x y : Result Bool Refusal) → answer_in x ≡ answer_in y → x ≡ y
+answer_one (Ok b) (Ok c) e = ap (λ (a : Answer). Ok a.yes) e
+answer_one (Ok b) (Err s) e = absurd (refused_ne0 s (ap (λ (a : Answer). a.number) (sym e)))
+answer_one (Err r) (Ok c) e = absurd (refused_ne0 r (ap (λ (a : Answer). a.number) e))
+answer_one (Err r) (Err s) e = ap (λ z. Err z) (refusal_one r s (ap (λ (a : Answer). a.number) e))
 
 -- an index that the map has not, with an entry that is not none, makes a page wrong: no arc leads to it
 pub absent_wrong : (g : Net ℤ) {s : ℕ} {page : List ℤ} (v : ℕ) → inside_net g ≡ true → has g s ≡ true → v < g.bound → has g v ≡ false → Known page v → Right (ArcOf g) g.bound s page → ⊥

@@ -5,6 +5,8 @@ use Rattle.numbers.specs.Tests.{first_no}
 use Rattle.whole.specs.Zed.{◌⊕◌}
 use Rattle.clean.specs.None.{none_i64}
 use Rattle.table.specs.Links.{links, Arc}
+use Rattle.net.specs.declared.Ints.{Ints}
+use Rattle.net.specs.declared.Lent.{Lent}
 use Rattle.net.specs.Net.{Net}
 use Rattle.page.specs.Promise.{entry, Known, Holds, Meets, InRange, Ranged, table}
 
@@ -83,3 +85,16 @@ pub record Ripe (m n : ℕ) (xs ys : List ℕ) (cs : List ℤ) (s : ℕ) (page :
   pub ready : Ready m n xs ys cs page met
   pub source : s < m
   pub zero : (v : ℕ) → get_or met v 0 ≡ 0
+
+-- the same, of a lent map
+abbrev pub UptoIn : Lent Ints → ℕ → List ℤ → List ℕ → Type 0
+UptoIn l i page met = Upto l.map.directed l.map.bound l.map.count l.from.now l.to.now l.costs.costs.now i page met
+
+abbrev pub StepIn : Lent Ints → ℕ → List ℤ → List ℕ → Bool → Type 0
+StepIn l i page met r = Step l.map.directed l.map.bound l.map.count l.from.now l.to.now l.costs.costs.now i page met r
+
+abbrev pub ScannedIn : Lent Ints → List ℤ → List ℕ → Bool → Type 0
+ScannedIn l page met r = Scanned l.map.directed l.map.count l.from.now l.to.now l.costs.costs.now page met r
+
+abbrev pub RipeIn : Lent Ints → ℕ → List ℤ → List ℕ → Type 0
+RipeIn l s page met = Ripe l.map.bound l.map.count l.from.now l.to.now l.costs.costs.now s page met

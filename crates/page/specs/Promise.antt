@@ -1,7 +1,10 @@
 -- What the page check promises.
 -- Assumes nothing.
 use Rattle.std.specs.Prelude.{◌≡◌, Bool, true, false, ◌&&◌, List, [], ◌∷◌, ◌⊎◌, ℕ, ◌<◌, ◌^◌, leb, ℤ, pos, ◌≤ℤ◌, length, get_or}
+use Rattle.std.specs.Prelude.{Result, Ok, Err}
 use Rattle.numbers.specs.Numbers.{Row, row, done, fails, holds, Follows}
+use Rattle.numbers.specs.declared.Refusal.{Refusal}
+use Rattle.numbers.specs.Refusal.{no_of}
 use Rattle.whole.specs.Zed.{◌⊕◌, Within}
 use Rattle.clean.specs.None.{none_i64}
 use Rattle.net.specs.Net.{Net, ArcOf, whole_net, inside_net, has}
@@ -61,6 +64,11 @@ pub record Answer : Type 0 where
 -- an answer from its parts
 abbrev pub answer_of : ℕ → Bool → Answer
 answer_of n r = record { number = n; yes = r }
+
+-- of a call: the word that it gives, and no after a refusal
+abbrev pub answer_in : Result Bool Refusal → Answer
+answer_in (Ok b) = answer_of 0 b
+answer_in (Err r) = answer_of (no_of r) false
 
 -- the table, of the map g, the source s and the page; y is the word beside the number
 abbrev pub table : Net ℤ → ℕ → List ℤ → List (Row Bool)

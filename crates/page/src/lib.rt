@@ -2,77 +2,52 @@
 #![tactic(auto)]
 
 ghost use Rattle.std.specs.Prelude.{◌≡◌, ℕ, ◌≤◌, ◌<◌, length};
+ghost use Rattle.numbers.specs.Refusal.{number_of};
 ghost use Rattle.clean.specs.None.{none_i64};
-ghost use Rattle.table.specs.Links.{links, Arc};
-ghost use Rattle.net.specs.Net.{net_of};
-ghost use Rattle.page.specs.Promise.{entry, Known, InRange, Ranged, Right, answer_of, Promise};
-ghost use Rattle.page.specs.Parts.{refusal_no, Tells, Decides, MarkedWhereKnown, CanLook, ArcChecked, Upto, Step, Scanned, Ripe};
+ghost use Rattle.net.specs.Net.{int_net, ArcOf};
+ghost use Rattle.page.specs.Promise.{entry, Known, InRange, Ranged, Right, answer_in, Promise};
+ghost use Rattle.page.specs.Parts.{refusal_no, Tells, Decides, MarkedWhereKnown, CanLook, ArcChecked};
+ghost use Rattle.page.specs.Parts.{UptoIn, StepIn, ScannedIn, RipeIn};
 
+use net::{Ints, Lent};
+use numbers::Refusal;
 use table::Map;
 
-// What the check answers: its number, and yes or no.
-#[derive(Clone, Copy)]
-pub struct Checked {
-    pub number: usize,
-    pub yes: bool,
-}
-
 // The largest distance that a page may hold.
-const TOP: i64 = 4398046511104;
+const TOP: i64 = 1 << 42;
 
 // The least.
-const LOW: i64 = -4398046511104;
+const LOW: i64 = -TOP;
 
-// 1 where a limit is passed or a lent slice is too short,
-// 2 where a link names an index that the map has not, 3 where the source is none, else 0.
-fn refusal(
-    map: Map,
-    marks: &[u8],
-    from: &[u16],
-    to: &[u16],
-    costs: &[i32],
-    source: usize,
-    page: &[i64],
-) -> usize
-    ensures { result ≡ refusal_no
-        (net_of map.bound map.count map.directed marks.now from.now to.now costs.now)
-        source page.now }
+// The refusals: Limit where a limit is passed or a lent slice is too short, then Index, then Source.
+#[tactic(auto, unfolding(crate::specs::Parts::refusal_no))]
+fn refusal(net: Lent<Ints>, source: usize, page: &[i64]) -> Result<(), Refusal>
+    ensures { number_of result ≡ refusal_no (int_net net.entry) source page.now }
 {
-    if !net::whole(map, marks, from, to, costs) {
-        return 1;
+    if !net.whole() || page.len() < net.map.bound {
+        return Err(Refusal::Limit);
     }
-    if page.len() < map.bound {
-        return 1;
+    if !net.inside() {
+        return Err(Refusal::Index);
     }
-    if !net::inside(map, marks, from, to, costs) {
-        return 2;
+    if !net.has(source) {
+        return Err(Refusal::Source);
     }
-    if !net::has_index(map.bound, marks, source) {
-        return 3;
-    }
-    0
+    Ok(())
 }
 
-// Has the index a distance?
-fn has_distance(page: &[i64], v: usize) -> bool
-    requires { v < length page.now }
-    ensures { Tells (Known page.now v) (entry page.now v ≡ none_i64) result }
+// Is the entry a distance, and not none?
+fn is_distance(entry: i64) -> bool
+    ensures { Tells (entry ≡ none_i64 → ⊥) (entry ≡ none_i64) result }
 {
-    page[v] != clean::NONE_I64
+    entry != clean::NONE_I64
 }
 
-// Is the index's entry none, or in the range that distances have?
-fn in_range(page: &[i64], v: usize) -> bool
-    requires { v < length page.now }
-    ensures { Decides (InRange (entry page.now v)) result }
+// Is the entry none, or in the range that distances have?
+fn in_range(entry: i64) -> bool
+    ensures { Decides (InRange entry) result }
 {
-    if !has_distance(page, v) {
-        return true;
-    }
-    if whole::lower(page[v], LOW) {
-        return false;
-    }
-    !whole::lower(TOP, page[v])
+    !is_distance(entry) || (LOW..=TOP).contains(&entry)
 }
 
 // Is each of the first m entries none, or in the range?
@@ -80,14 +55,7 @@ fn all_in_range(m: usize, page: &[i64]) -> bool
     requires { m ≤ length page.now }
     ensures { Decides (Ranged m page.now) result }
 {
-    let mut v: usize = 0;
-    while v < m {
-        if !in_range(page, v) {
-            return false;
-        }
-        v += 1;
-    }
-    true
+    page[..m].iter().all(|entry| in_range(*entry))
 }
 
 // Does an arc from u to v hold? Marks v where the arc meets it exactly.
@@ -95,85 +63,41 @@ fn arc_holds(page: &[i64], met: &mut [u8], u: usize, v: usize, cost: i32) -> boo
     requires { CanLook page.now met.old u v }
     ensures { ArcChecked page.now u v cost met.old met.new result }
 {
-    if !has_distance(page, u) {
+    if !is_distance(page[u]) {
         return true;
     }
-    if !has_distance(page, v) {
+    if !is_distance(page[v]) {
         return false;
     }
-    let next = whole::plus(page[u], whole::widen(cost));
-    if whole::lower(next, page[v]) {
-        return false;
+    let next = page[u] + i64::from(cost);
+    if page[v] == next {
+        met[v] = 1;
     }
-    if whole::lower(page[v], next) {
-        return true;
-    }
-    met[v] = 1;
-    true
+    page[v] <= next
 }
 
 // Do the arcs of the link i hold: one if directed, else one each way?
-fn link_holds(
-    map: Map,
-    from: &[u16],
-    to: &[u16],
-    costs: &[i32],
-    page: &[i64],
-    met: &mut [u8],
-    i: usize,
-) -> bool
-    requires { (i < map.count)
-        × Upto map.directed map.bound map.count from.now to.now costs.now i page.now met.old }
-    ensures { Step map.directed map.bound map.count from.now to.now costs.now i
-        page.now met.new result }
+fn link_holds(net: Lent<Ints>, page: &[i64], met: &mut [u8], i: usize) -> bool
+    requires { (i < net.map.count) × UptoIn net i page.now met.old }
+    ensures { StepIn net.entry i page.now met.new result }
 {
-    let a = from[i] as usize;
-    let b = to[i] as usize;
-    if !arc_holds(page, met, a, b, costs[i]) {
-        return false;
-    }
-    if map.directed {
-        return true;
-    }
-    arc_holds(page, met, b, a, costs[i])
+    let a = usize::from(net.from[i]);
+    let b = usize::from(net.to[i]);
+    let cost = net.costs.costs[i];
+    arc_holds(page, met, a, b, cost) && (net.map.directed || arc_holds(page, met, b, a, cost))
 }
 
 // Does every arc hold? The marks are then those of the indices that some arc meets exactly.
-fn arcs_hold(
-    map: Map,
-    from: &[u16],
-    to: &[u16],
-    costs: &[i32],
-    page: &[i64],
-    met: &mut [u8],
-) -> bool
-    requires { Upto map.directed map.bound map.count from.now to.now costs.now 0 page.now met.old }
-    ensures { Scanned map.directed map.count from.now to.now costs.now page.now
-        met.new result }
+fn arcs_hold(net: Lent<Ints>, page: &[i64], met: &mut [u8]) -> bool
+    requires { UptoIn net 0 page.now met.old }
+    ensures { ScannedIn net.entry page.now met.new result }
 {
-    let n = map.count;
-    let mut i: usize = 0;
-    while i < n {
-        if !link_holds(map, from, to, costs, page, met, i) {
+    for i in 0..net.map.count {
+        if !link_holds(net, page, met, i) {
             return false;
         }
-        i += 1;
     }
     true
-}
-
-// Is the index the source, or without a distance, or marked?
-fn is_met(source: usize, page: &[i64], met: &[u8], v: usize) -> bool
-    requires { (v < length page.now) × (v < length met.now) }
-    ensures { Decides (MarkedWhereKnown source page.now met.now v) result }
-{
-    if v == source {
-        return true;
-    }
-    if !has_distance(page, v) {
-        return true;
-    }
-    met[v] != 0
 }
 
 // Is each of the first m indices the source, or without a distance, or marked?
@@ -181,70 +105,26 @@ fn all_met(m: usize, source: usize, page: &[i64], met: &[u8]) -> bool
     requires { (m ≤ length page.now) × (m ≤ length met.now) }
     ensures { Decides ((v : ℕ) → v < m → MarkedWhereKnown source page.now met.now v) result }
 {
-    let mut v: usize = 0;
-    while v < m {
-        if !is_met(source, page, met, v) {
-            return false;
-        }
-        v += 1;
-    }
-    true
+    (0..m).all(|v| v == source || !is_distance(page[v]) || met[v] != 0)
 }
 
 // Is the page right? The marks are all zero at first.
-fn judge(
-    map: Map,
-    from: &[u16],
-    to: &[u16],
-    costs: &[i32],
-    source: usize,
-    page: &[i64],
-    met: &mut [u8],
-) -> bool
-    requires { Ripe map.bound map.count from.now to.now costs.now source page.now met.old }
-    ensures { Decides
-        (Right
-        (Arc map.directed (links map.count from.now to.now costs.now)) map.bound source
-        page.now) result }
+fn judge(net: Lent<Ints>, source: usize, page: &[i64], met: &mut [u8]) -> bool
+    requires { RipeIn net source page.now met.old }
+    ensures { Decides (Right (ArcOf (int_net net.entry)) net.entry.map.bound source page.now) result }
 {
-    let m = map.bound;
-    if page[source] != 0 {
-        return false;
-    }
-    if !all_in_range(m, page) {
-        return false;
-    }
-    if !arcs_hold(map, from, to, costs, page, met) {
-        return false;
-    }
-    all_met(m, source, page, met)
+    let m = net.map.bound;
+    page[source] == 0
+        && all_in_range(m, page)
+        && arcs_hold(net, page, met)
+        && all_met(m, source, page, met)
 }
 
 // The page check: yes or no in m + links steps, with nothing lent written. The promise is in specs/Promise.antt.
-pub fn check(
-    map: Map,
-    marks: &[u8],
-    from: &[u16],
-    to: &[u16],
-    costs: &[i32],
-    source: usize,
-    page: &[i64],
-) -> Checked
-    ensures { Promise
-        (net_of map.bound map.count map.directed marks.now from.now to.now costs.now)
-        source page.now (answer_of result.number result.yes) }
+pub fn check(net: Lent<Ints>, source: usize, page: &[i64]) -> Result<bool, Refusal>
+    ensures { Promise (int_net net.entry) source page.now (answer_in result) }
 {
-    let refused = refusal(map, marks, from, to, costs, source, page);
-    if refused != 0 {
-        return Checked {
-            number: refused,
-            yes: false,
-        };
-    }
-    let mut met: [u8; Map::INDICES] = [0; Map::INDICES];
-    let yes = judge(map, from, to, costs, source, page, &mut met);
-    Checked {
-        number: 0,
-        yes: yes,
-    }
+    refusal(net, source, page)?;
+    let mut met = [0u8; Map::INDICES];
+    Ok(judge(net, source, page, &mut met))
 }

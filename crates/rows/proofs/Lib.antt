@@ -10,3 +10,4 @@ pub mod Graph
 pub mod Kept
 pub mod One
 pub mod Maps
+pub mod Floats

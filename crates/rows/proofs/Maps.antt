@@ -11,21 +11,23 @@ use Prim.Native.Nat.{ℕ, zero, suc, ◌+◌, ◌≤◌, ◌<◌}
 use native.Mathlib.Nat.{not-suc-le-zero, le_of_suc-le-suc}
 use native.Mathlib.Omega.{arith}
 use lib.Dec.{eqb}
-use lib.IntN.{ℤ, pos}
+use lib.IntN.{ℤ}
 use lib.ListN.{length, get_or, take}
 use lib.Seq.{length-take-le, get_or-take}
 use Rattle.table.specs.Links.{Link, link_of, zip3, links, ends, inside, all_inside, turned, arcs_of, arcs, Arc, Leads}
 use Rattle.table.specs.Lent.{float_cost, float_costs, OpenArc}
 use Rattle.table.specs.declared.FloatCost.{FloatCost}
-use Rattle.table.proofs.Laws.{zip_at, zip_long, costs_long, all_at, present_below, both_below}
+use Rattle.table.proofs.Laws.{Room, zip_at, zip_long, costs_long, all_at, present_below, both_below}
 use Rattle.table.proofs.Arcs.{arc_inside}
-use Rattle.net.specs.Net.{Net, net_of, net_of64, links_of, ArcOf, OpenArcOf, whole_net, inside_net, most_arcs, most_arcs_of}
-use Rattle.net.proofs.Bounds.{whole_ints, long_ints, whole_floats, long_floats}
+use Rattle.net.specs.Net.{Net, net_of, net_of64, net_in, links_of, ArcOf, OpenArcOf, whole_net, inside_net, most_arcs, most_arcs_of}
+use Rattle.net.specs.declared.Lent.{Lent}
+use Rattle.net.proofs.Bounds.{whole_of, long_of, whole_ints, long_ints, whole_floats, long_floats}
 use Rattle.net.proofs.Same.{arc_below, open_below}
 use Rattle.walks.specs.Costs.{Costs32}
 use Rattle.rows.specs.Rows.{Lists, open_links, arcs_ends, Ready, EnoughFor, Rows}
 use Rattle.rows.specs.RowArc.{RowArc, Sound}
 use Rattle.rows.specs.Kept.{KeptLists, EnoughLists}
+use Rattle.rows.proofs.Back.{some_of}
 use Rattle.rows.proofs.Graph.{arc_of, row_of, sound}
 use Rattle.rows.proofs.Kept.{lists_for, rows_kept}
 
@@ -65,30 +67,39 @@ pub open_room : (d : Bool) (n : ℕ) (l : List (Link FloatCost)) → length (arc
 open_room d n l = omega (arith, arcs_most d (open_links (take n l)), room_mono d (length (open_links (take n l))) n (omega (arith, open_few (take n l), take_few n l)))
 
 -- a table that is not refused is ready
-ready_of : {C : Type 0} (m n : ℕ) (marks xs ys : List ℕ) (cs : List C) (c : C) → m ≤ 1024 → n ≤ 8192 → n ≤ length xs → n ≤ length ys → n ≤ length cs → all_inside m marks (links n xs ys cs) ≡ true
+ready_of : {C : Type 0} (m n : ℕ) (marks xs ys : List ℕ) (cs : List C) → m ≤ 1024 → n ≤ 8192 → n ≤ length xs → n ≤ length ys → n ≤ length cs → all_inside m marks (links n xs ys cs) ≡ true
     → Ready m n xs ys
-ready_of {C} m n marks xs ys cs c h k p q s e = record { indices = h; few = k; in_from = p; in_to = q; tails = λ j l. (both j l).0; heads = λ j l. (both j l).1 }
+ready_of {C} m n marks xs ys cs h k p q s e = record { indices = h; few = k; in_from = p; in_to = q; tails = λ j l. (both j l).0; heads = λ j l. (both j l).1 }
   where
     both : (j : ℕ) → j < n → (get_or xs j 0 < m) × (get_or ys j 0 < m)
     both j l =
         let long = length-take-le n (zip3 xs ys cs) (zip_long xs ys cs n p q s) in
-        let at = get_or-take n (zip3 xs ys cs) j (link_of 0 0 c) l ∙ zip_at xs ys cs (link_of 0 0 c) j (omega arith) (omega arith) (omega arith) in
-        both_below m marks (get_or xs j 0) (get_or ys j 0)
-        (subst (λ (x : Link C). inside m marks x ≡ true) at (all_at m marks (links n xs ys cs) (link_of 0 0 c) j (omega (arith, long)) e))
+        let o : Link C = some_of (links n xs ys cs) (omega arith) in
+        let at = get_or-take n (zip3 xs ys cs) j o l ∙ zip_at xs ys cs o j (omega arith) (omega arith) (omega arith) in
+        both_below m marks (get_or xs j 0) (get_or ys j 0) (subst (λ (x : Link C). inside m marks x ≡ true) at (all_at m marks (links n xs ys cs) o j (omega (arith, long)) e))
+
+-- so is a lent map of any kind
+pub ready_lent : {D C : Type 0} (listed : D → List C) (room : List ℕ → List ℕ → D → ℕ) (l : Lent D) → Room (room l.from.now l.to.now l.costs) l.from.now l.to.now (length (listed l.costs))
+    → whole_net (net_in listed room l) ≡ true → inside_net (net_in listed room l) ≡ true → Ready l.map.bound l.map.count l.from.now l.to.now × (l.map.count ≤ length (listed l.costs))
+ready_lent listed room l fits e i =
+    let w = whole_of (net_in listed room l) l.from.now l.to.now (listed l.costs) fits refl e in
+    let k = long_of (net_in listed room l) l.from.now l.to.now (listed l.costs) fits refl e in
+    (ready_of l.map.bound l.map.count l.marks.now l.from.now l.to.now (listed l.costs) w.indices w.links k.0 k.1 k.2 i, k.2)
 
 pub ready_ints : (m n : ℕ) (d : Bool) (marks xs ys : List ℕ) (cs : List ℤ) → whole_net (net_of m n d marks xs ys cs) ≡ true → inside_net (net_of m n d marks xs ys cs) ≡ true
     → Ready m n xs ys × (n ≤ length cs)
 ready_ints m n d marks xs ys cs e i =
     let w = whole_ints m n d marks xs ys cs e in
     let l = long_ints m n d marks xs ys cs e in
-    (ready_of m n marks xs ys cs (pos 0) w.indices w.links l.0 l.1 l.2 i, l.2)
+    (ready_of m n marks xs ys cs w.indices w.links l.0 l.1 l.2 i, l.2)
 
 pub ready_floats : (m n : ℕ) (d : Bool) (marks xs ys bs os : List ℕ) → whole_net (net_of64 m n d marks xs ys bs os) ≡ true → inside_net (net_of64 m n d marks xs ys bs os) ≡ true
-    → Ready m n xs ys × (n ≤ length bs) × (n ≤ length os)
+    → Ready m n xs ys × (n ≤ length (float_costs bs os))
 ready_floats m n d marks xs ys bs os e i =
     let w = whole_floats m n d marks xs ys bs os e in
     let l = long_floats m n d marks xs ys bs os e in
-    (ready_of m n marks xs ys (float_costs bs os) (float_cost 0 false) w.indices w.links l.0 l.1 (costs_long bs os n l.2 l.3) i, l.2, l.3)
+    let c = costs_long bs os n l.2 l.3 in
+    (ready_of m n marks xs ys (float_costs bs os) w.indices w.links l.0 l.1 c i, c)
 
 -- slices as long as the need have room
 pub room_of : {C : Type 0} (A : List (Link C)) (m a : ℕ) (s : Lists C) → length A ≤ a → m < length s.offsets → a ≤ length s.heads → a ≤ length s.weights → EnoughFor A m s

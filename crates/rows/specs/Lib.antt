@@ -3,3 +3,4 @@ pub mod Steps
 pub mod RowArc
 pub mod Scratch
 pub mod Kept
+pub mod Kinds

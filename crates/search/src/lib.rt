@@ -347,5 +347,6 @@ pub fn to_all<'a, 'b>(
     ensures kept_memory { KeptMemory m (memory_in memory.old) (memory_in memory.new) }
     ensures same { SameMemory memory.old memory.new }
 {
-    run(Guided { guess: &[0] }, m, source, None, lists, memory)
+    let rule = Guided { guess: &[0] };
+    run(rule, m, source, None, lists, memory)
 }

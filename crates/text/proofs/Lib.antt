@@ -1,4 +1,3 @@
 pub mod Widths
-pub mod Fields
 pub mod Lines
 pub mod Rows

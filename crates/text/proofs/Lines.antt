@@ -11,7 +11,7 @@ use native.Mathlib.Omega.{arith}
 use lib.ListN.{length, get_or, take, length-append}
 use Rattle.lines.specs.Text.{Printed}
 use Rattle.lines.proofs.Places.{no_byte, printed_more, printed_length}
-use Rattle.text.specs.Text.{field, with_fields, entries, each_index}
+use Rattle.text.specs.Text.{field, with_fields, each_index}
 
 -- what holds before each turn
 pub record Listing (text : ℕ → List ℕ) (most : ℕ) (out₀ : List ℕ) (at m : ℕ) (out : List ℕ) (next i : ℕ) : Type 0 where
@@ -35,20 +35,16 @@ module _ {text : ℕ → List ℕ} {most : ℕ} {out₀ : List ℕ} {at m : ℕ}
   listing_skip h e = record { within = omega arith; fits = l.fits; printed = rw e l.printed; even = l.even; small = omega (arith, ap length e, l.small) }
 
   -- a turn that prints t
-  pub listing_more : {t two : List ℕ} {r : ℕ} → i < m → text (i + 1) ≡ text i ++ t → length t ≤ most → Printed out next t two r → Listing text most out₀ at m two r (i + 1)
-  listing_more {t} {two} {r} h e n q =
+  pub listing_more : {t two : List ℕ} {r : ℕ} → i < m → text (i + 1) ≡ text i ++ t → Printed out next t two r → r ≤ next + most → Listing text most out₀ at m two r (i + 1)
+  listing_more {t} {two} {r} h e q n =
       let room = listing_room h in
       record {
         within = omega arith;
         fits = l.fits;
-        printed = rw e (printed_more out₀ at (text i) (omega (arith, room, l.printed.ends, l.even)) t out two next r l.printed q);
-        even = printed_length out next t two r (omega (arith, room, n)) q ∙ l.even;
-        small = omega (arith, ap length e, length-append (text i) t, l.small, n);
+        printed = rw e (printed_more out₀ at (text i) (omega (arith, room, l.printed.ends, l.even, q.ends, n)) t out two next r l.printed q);
+        even = printed_length out next t two r (omega (arith, room, q.ends, n)) q ∙ l.even;
+        small = omega (arith, ap length e, length-append (text i) t, l.small, q.ends, n);
       }
-
-  -- the whole text
-  pub listing_end : m ≤ i → Printed out₀ at (text m) out next
-  listing_end h = let e : i ≡ m = omega (arith, l.within) in rw (← e) l.printed
 
 -- a line for each index that the map has
 module _ (has : ℕ → Bool) (f : ℕ → List ℕ) (i : ℕ) where
@@ -77,12 +73,3 @@ module _ {A : Type 0} (show : A → List ℕ) where
 -- a line from its first text and its further fields, each printed by itself
 pub fields_split : (t : List ℕ) (fs : List (List ℕ)) → with_fields t fs ≡ t ++ with_fields [] fs
 fields_split t fs = ap (λ (x : List ℕ). with_fields x fs) (sym (append-nil t)) ∙ fields_after t [] fs
-
--- n fields of at most w bytes each
-pub entries_width : {A : Type 0} (show : A → List ℕ) (w : ℕ) → ((x : A) → length (show x) ≤ w) → (n : ℕ) (l : List A) → length (entries show n l) ≤ n * (w + 1)
-entries_width {A} show w h n l = omega (arith, go [] n l)
-  where
-    go : (t : List ℕ) (n : ℕ) (l : List A) → length (with_fields t (map show (take n l))) ≤ length t + n * (w + 1)
-    go t zero l = omega arith
-    go t (suc n) [] = omega arith
-    go t (suc n) (x ∷ l) = omega (arith, go (t ++ field (show x)) n l, length-append t (field (show x)), h x)

@@ -1,17 +1,16 @@
--- How long a field can be.
+-- How long the numbers of an answer can be.
 -- Assumes nothing.
-use mathlib.Core.List.{List, [], ◌∷◌, ◌++◌}
+use mathlib.Core.List.{[], ◌∷◌}
 use Prim.Native.Nat.{ℕ, suc, ◌≤◌}
 use native.Mathlib.Omega.{arith}
-use lib.Dec.{eqb}
 use lib.IntN.{ℤ, pos, negsuc}
-use lib.Signed.{lt_z}
-use lib.ListN.{length, get_or, length-append}
-use Rattle.whole.proofs.Cases.{by_test}
-use Rattle.clean.specs.None.{none_i64, none_u32, none_f64}
+use lib.ListN.{length, length-append}
 use Rattle.lines.specs.Text.{decimal_text, signed_text, hex_text, newline_text, cost_text}
+use Rattle.text.specs.Text.{line}
 use Rattle.lines.proofs.Digits.{decimal_text_length, hex_length}
-use Rattle.text.specs.Text.{distance_text, index_text, bits_text, field, line, distance_line, tree_line}
+
+pub decimal_width : (n : ℕ) → length (decimal_text n) ≤ 20
+decimal_width n = decimal_text_length n
 
 -- a signed number: a sign and at most 20 digits
 pub signed_width : (z : ℤ) → length (signed_text z) ≤ 21
@@ -19,40 +18,10 @@ unfolding signed_text
 signed_width (pos n) = omega (arith, decimal_text_length n)
 signed_width (negsuc n) = omega (arith, decimal_text_length (suc n))
 
-pub distance_width : (z : ℤ) → length (distance_text z) ≤ 21
-unfolding distance_text
-distance_width z = by_test (λ (t : List ℕ). length t ≤ 21) (lt_z none_i64 z) _ _ (λ _. signed_width z) (λ _. omega arith)
-
-pub index_width : (k : ℕ) → length (index_text k) ≤ 20
-unfolding index_text
-index_width k = by_test (λ (t : List ℕ). length t ≤ 20) (eqb k none_u32) _ _ (λ _. omega arith) (λ _. decimal_text_length k)
-
--- a line of an index and a distance
-pub distance_line_width : (dist : List ℤ) (i : ℕ) → length (distance_line dist i) ≤ 43
-distance_line_width dist i =
-    let t = field (distance_text (get_or dist i (pos 0))) in
-    omega (arith, length-append (decimal_text i ++ t) newline_text, length-append (decimal_text i) t, decimal_text_length i, distance_width (get_or dist i (pos 0)))
+pub hex_width : (n : ℕ) → length (hex_text n) ≤ 16
+unfolding hex_text
+hex_width n = omega (arith, hex_length 16 n)
 
 -- the line of a cost
 pub cost_line_width : (z : ℤ) → length (line cost_text (signed_text z ∷ [])) ≤ 27
 cost_line_width z = omega (arith, length-append (signed_text z) newline_text, signed_width z)
-
--- an f64 distance: 16 digits
-pub bits_width : (x : ℕ) → length (bits_text x) ≤ 16
-unfolding bits_text hex_text
-bits_width x = by_test (λ (t : List ℕ). length t ≤ 16) (eqb x none_f64) _ _ (λ _. omega arith) (λ _. omega (arith, hex_length 16 x))
-
--- a line of an index, an f64 distance and a predecessor
-pub tree_line_width : (dist preds : List ℕ) (i : ℕ) → length (tree_line dist preds i) ≤ 59
-tree_line_width dist preds i =
-    let x = field (bits_text (get_or dist i 0)) in
-    let k = field (index_text (get_or preds i 0)) in
-    omega (
-      arith,
-      length-append (decimal_text i ++ x ++ k) newline_text,
-      length-append (decimal_text i ++ x) k,
-      length-append (decimal_text i) x,
-      decimal_text_length i,
-      bits_width (get_or dist i 0),
-      index_width (get_or preds i 0),
-    )

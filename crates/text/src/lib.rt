@@ -1,53 +1,115 @@
 // The text of an answer, put into a lent buffer: one function for each kind of line.
 #![tactic(auto)]
 
-ghost use Rattle.std.specs.Prelude.{[], ◌∷◌, map, ℕ, ◌+◌, ◌*◌, ◌≤◌, ◌<◌, pos, length, get_or, take, drop};
+ghost use Rattle.std.specs.Prelude.{List, [], ◌∷◌, map, ℕ, ◌+◌, ◌*◌, ◌≤◌, ◌<◌, pos, length, get_or, take};
 ghost use Rattle.table.specs.Links.{present};
-ghost use Rattle.lines.specs.Text.{Printed, decimal_text, signed_text, end_text, cost_text, path_text};
-ghost use Rattle.text.specs.Text.{distance_text, index_text, bits_text, field, entries, line, distance_line, distance_lines};
-ghost use Rattle.text.specs.Text.{path_lines, width, row_line, row_lines, tree_line, tree_lines, refused_line, engine_line, bad_text};
+ghost use Rattle.lines.specs.Text.{Printed, decimal_text, signed_text, end_text, cost_text, path_text, row_text};
+ghost use Rattle.text.specs.Text.{distance_text, index_text, bits_text, field, with_fields, line, distance_line, distance_lines};
+ghost use Rattle.text.specs.Text.{path_lines, width, row_lines, tree_line, tree_lines, refused_line, engine_line, bad_text};
 
-// Puts a space and a number.
-fn put_number(out: &mut [u8], at: usize, n: u64) -> usize
-    requires { at + 21 ≤ length out.old }
-    ensures { Printed out.old at (field (decimal_text n)) out.new result }
-{
-    let next = lines::put_space(out, at);
-    lines::put_decimal(out, next, n)
+// An entry of an answer, which may be none: how it is printed, and in how many bytes at most.
+pub trait Entry: Copy {
+    ghost text_of: { Self → List ℕ };
+
+    ghost widest: { ℕ };
+
+    // Puts its text at a place.
+    fn put(self, out: &mut [u8], at: usize) -> usize
+        requires { at + widest ≤ length out.old }
+        ensures printed { Printed out.old at (text_of self) out.new result }
+        ensures short { result ≤ at + widest };
 }
 
-// Puts a space and the distance at place i, or none.
-fn put_distance(out: &mut [u8], at: usize, dist: &[i64], i: usize) -> usize
-    requires { (at + 22 ≤ length out.old) × (i < length dist.now) }
-    ensures { Printed out.old at (field (distance_text (get_or dist.now i (pos 0)))) out.new result }
-{
-    let d = dist[i];
-    let next = lines::put_space(out, at);
-    if whole::lower(clean::NONE_I64, d) {
-        return lines::put_signed(out, next, d);
+// A distance.
+impl Entry for i64 {
+    ghost text_of = { distance_text };
+
+    ghost widest = { 21 };
+
+    #[tactic(auto, using(crate::proofs::Widths::signed_width), unfolding(crate::specs::Text::distance_text))]
+    fn put(self, out: &mut [u8], at: usize) -> usize {
+        if clean::NONE_I64 < self {
+            lines::put_signed(out, at, self)
+        } else {
+            lines::put_bytes(out, at, &lines::NONE)
+        }
     }
-    lines::put_bytes(out, next, &lines::NONE)
 }
 
-// Puts a space and an index, or none.
-fn put_index(out: &mut [u8], at: usize, i: u32) -> usize
-    requires { at + 21 ≤ length out.old }
-    ensures { Printed out.old at (field (index_text i)) out.new result }
+// An index, or a number of hops.
+impl Entry for u32 {
+    ghost text_of = { index_text };
+
+    ghost widest = { 20 };
+
+    #[tactic(auto, using(crate::proofs::Widths::decimal_width), unfolding(crate::specs::Text::index_text))]
+    fn put(self, out: &mut [u8], at: usize) -> usize {
+        if self == clean::NONE_U32 {
+            lines::put_bytes(out, at, &lines::NONE)
+        } else {
+            lines::put_decimal(out, at, u64::from(self))
+        }
+    }
+}
+
+// An f64 distance, by its pattern.
+impl Entry for u64 {
+    ghost text_of = { bits_text };
+
+    ghost widest = { 16 };
+
+    #[tactic(auto, using(crate::proofs::Widths::hex_width), unfolding(crate::specs::Text::bits_text))]
+    fn put(self, out: &mut [u8], at: usize) -> usize {
+        if self == clean::NONE_F64 {
+            lines::put_bytes(out, at, &lines::NONE)
+        } else {
+            lines::put_hex(out, at, self)
+        }
+    }
+}
+
+// A number that is never none.
+impl Entry for usize {
+    ghost text_of = { decimal_text };
+
+    ghost widest = { 20 };
+
+    #[tactic(auto, using(crate::proofs::Widths::decimal_width))]
+    fn put(self, out: &mut [u8], at: usize) -> usize {
+        lines::put_decimal(out, at, self as u64)
+    }
+}
+
+// Puts a space and an entry.
+fn put_field<E: Entry>(out: &mut [u8], at: usize, entry: E) -> usize
+    requires { at + (E.widest + 1) ≤ length out.old }
+    ensures printed { Printed out.old at (field (E.text_of entry)) out.new result }
+    ensures short { result ≤ at + (E.widest + 1) }
 {
     let next = lines::put_space(out, at);
-    if i == clean::NONE_U32 {
-        return lines::put_bytes(out, next, &lines::NONE);
+    entry.put(out, next)
+}
+
+// Puts entries, each after a space.
+fn put_fields<E: Entry>(out: &mut [u8], at: usize, entries: &[E]) -> usize
+    requires { at + length entries.now * (E.widest + 1) ≤ length out.old }
+    ensures printed { Printed out.old at (with_fields [] (map E.text_of entries.now)) out.new result }
+    ensures short { result ≤ at + length entries.now * (E.widest + 1) }
+{
+    let mut next = at;
+    for entry in entries {
+        next = put_field(out, next, *entry);
     }
-    lines::put_decimal(out, next, i as u64)
+    next
 }
 
 // Puts a line of a word and a number.
-fn print_number(out: &mut [u8], at: usize, word: &[u8], n: u64) -> usize
+fn print_number(out: &mut [u8], at: usize, word: &[u8], n: usize) -> usize
     requires { at + length word.now + 22 ≤ length out.old }
     ensures { Printed out.old at (line word.now (decimal_text n ∷ [])) out.new result }
 {
     let text = lines::put_bytes(out, at, word);
-    let number = put_number(out, text, n);
+    let number = put_field(out, text, n);
     lines::put_newline(out, number)
 }
 
@@ -56,7 +118,7 @@ pub fn print_refused(out: &mut [u8], at: usize, n: usize) -> usize
     requires { at + 29 ≤ length out.old }
     ensures { Printed out.old at (refused_line n) out.new result }
 {
-    print_number(out, at, &lines::REFUSED, n as u64)
+    print_number(out, at, &lines::REFUSED, n)
 }
 
 // Puts the line `bad map at K`.
@@ -64,7 +126,7 @@ pub fn print_bad(out: &mut [u8], at: usize, k: usize) -> usize
     requires { at + 32 ≤ length out.old }
     ensures { Printed out.old at (bad_text k) out.new result }
 {
-    print_number(out, at, &lines::BAD_MAP, k as u64)
+    print_number(out, at, &lines::BAD_MAP, k)
 }
 
 // Puts the line `engine E`.
@@ -72,17 +134,18 @@ pub fn print_engine(out: &mut [u8], at: usize, engine: u8) -> usize
     requires { at + 28 ≤ length out.old }
     ensures { Printed out.old at (engine_line engine) out.new result }
 {
-    print_number(out, at, &lines::ENGINE, engine as u64)
+    print_number(out, at, &lines::ENGINE, usize::from(engine))
 }
 
 // Puts the line `index distance`.
 fn print_distance(out: &mut [u8], at: usize, dist: &[i64], i: usize) -> usize
     requires { (at + 43 ≤ length out.old) × (i < length dist.now) }
-    ensures { Printed out.old at (distance_line dist.now i) out.new result }
+    ensures printed { Printed out.old at (distance_line dist.now i) out.new result }
+    ensures short { result ≤ at + 43 }
 {
-    let index = lines::put_decimal(out, at, i as u64);
-    let distance = put_distance(out, index, dist, i);
-    lines::put_newline(out, distance)
+    let index = i.put(out, at);
+    let number = put_field(out, index, dist[i]);
+    lines::put_newline(out, number)
 }
 
 // Puts a line `index distance` for each index that the map has.
@@ -92,40 +155,10 @@ pub fn print_distances(out: &mut [u8], at: usize, bound: usize, marks: &[u8], di
         (distance_lines (present bound marks.now) bound dist.now) out.new result }
 {
     let mut next = at;
-    let mut i: usize = 0;
-    while i < bound {
+    for i in 0..bound {
         if net::has_index(bound, marks, i) {
             next = print_distance(out, next, dist, i);
         }
-        i += 1;
-    }
-    next
-}
-
-// Puts n distances from a place on, each after a space.
-fn put_distances(out: &mut [u8], at: usize, matrix: &[i64], start: usize, n: usize) -> usize
-    requires { (start + n ≤ length matrix.now) × (at + n * 22 ≤ length out.old) }
-    ensures { Printed out.old at (entries distance_text n (drop start matrix.now)) out.new result }
-{
-    let mut next = at;
-    let mut k: usize = 0;
-    while k < n {
-        next = put_distance(out, next, matrix, start + k);
-        k += 1;
-    }
-    next
-}
-
-// Puts n indices from a place on, each after a space.
-fn put_indices(out: &mut [u8], at: usize, matrix: &[u32], start: usize, n: usize) -> usize
-    requires { (start + n ≤ length matrix.now) × (at + n * 21 ≤ length out.old) }
-    ensures { Printed out.old at (entries index_text n (drop start matrix.now)) out.new result }
-{
-    let mut next = at;
-    let mut k: usize = 0;
-    while k < n {
-        next = put_index(out, next, matrix[start + k]);
-        k += 1;
     }
     next
 }
@@ -147,84 +180,51 @@ pub fn print_end(out: &mut [u8], at: usize) -> usize
     print_word(out, at, &lines::END)
 }
 
-// Puts the line `path i j ..` of a path of n nodes.
-fn print_nodes(out: &mut [u8], at: usize, path: &[u32], n: usize) -> usize
-    requires { (n ≤ length path.now) × (at + n * 21 + 5 ≤ length out.old) }
-    ensures { Printed out.old at (line path_text (map index_text (take n path.now))) out.new result }
+// Puts the line `path i j ..` of the nodes of a path.
+fn print_nodes(out: &mut [u8], at: usize, path: &[u32]) -> usize
+    requires { at + length path.now * 21 + 5 ≤ length out.old }
+    ensures { Printed out.old at (line path_text (map index_text path.now)) out.new result }
 {
     let word = lines::put_bytes(out, at, &lines::PATH);
-    let nodes = put_indices(out, word, path, 0, n);
+    let nodes = put_fields(out, word, path);
     lines::put_newline(out, nodes)
 }
 
-// Puts the line `row i` and the r-th row of a matrix of distances, p entries wide.
-fn print_row(out: &mut [u8], at: usize, matrix: &[i64], r: usize, p: usize, i: usize) -> usize
-    requires { (r * p + p ≤ length matrix.now) × (at + (p * 22 + 25) ≤ length out.old) }
-    ensures { Printed out.old at (row_line distance_text p matrix.now r i) out.new result }
+// Puts the line `row i` and the entries of a row.
+fn print_row<E: Entry>(out: &mut [u8], at: usize, i: usize, row: &[E]) -> usize
+    requires { at + (length row.now * (E.widest + 1) + 25) ≤ length out.old }
+    ensures printed { Printed out.old at (line row_text (decimal_text i ∷ map E.text_of row.now)) out.new result }
+    ensures short { result ≤ at + (length row.now * (E.widest + 1) + 25) }
 {
     let word = lines::put_bytes(out, at, &lines::ROW);
-    let index = put_number(out, word, i as u64);
-    let row = put_distances(out, index, matrix, r * p, p);
-    lines::put_newline(out, row)
+    let index = put_field(out, word, i);
+    let entries = put_fields(out, index, row);
+    lines::put_newline(out, entries)
 }
 
-// Puts the line `row i` and the r-th row of a matrix of hops, p entries wide.
-fn print_hop_row(out: &mut [u8], at: usize, matrix: &[u32], r: usize, p: usize, i: usize) -> usize
-    requires { (r * p + p ≤ length matrix.now) × (at + (p * 21 + 25) ≤ length out.old) }
-    ensures { Printed out.old at (row_line index_text p matrix.now r i) out.new result }
-{
-    let word = lines::put_bytes(out, at, &lines::ROW);
-    let index = put_number(out, word, i as u64);
-    let row = put_indices(out, index, matrix, r * p, p);
-    lines::put_newline(out, row)
-}
-
-// Puts a line `row i` with its distances for each index that the map has.
-pub fn print_rows(out: &mut [u8], at: usize, bound: usize, marks: &[u8], matrix: &[i64]) -> usize
-    requires { (bound ≤ length marks.now)
-        × (width (present bound marks.now) bound * width (present bound marks.now) bound ≤ length matrix.now)
-        × (at + bound * (width (present bound marks.now) bound * 22 + 25) ≤ length out.old) }
-    ensures { Printed out.old at
-        (row_lines distance_text (present bound marks.now) bound matrix.now) out.new result }
-{
-    let p = net::count_present(bound, marks);
-    let mut next = at;
-    let mut r: usize = 0;
-    let mut i: usize = 0;
-    while i < bound {
-        if net::has_index(bound, marks, i) {
-            next = print_row(out, next, matrix, r, p, i);
-            r += 1;
-        }
-        i += 1;
-    }
-    next
-}
-
-// Puts a line `row i` with its hops for each index that the map has.
-pub fn print_hop_rows(
+// Puts a line `row i` with its entries for each index that the map has.
+pub fn print_rows<E: Entry>(
     out: &mut [u8],
     at: usize,
     bound: usize,
     marks: &[u8],
-    matrix: &[u32],
+    matrix: &[E],
 ) -> usize
     requires { (bound ≤ length marks.now)
         × (width (present bound marks.now) bound * width (present bound marks.now) bound ≤ length matrix.now)
-        × (at + bound * (width (present bound marks.now) bound * 21 + 25) ≤ length out.old) }
+        × (at + bound * (width (present bound marks.now) bound * (E.widest + 1) + 25) ≤ length out.old) }
     ensures { Printed out.old at
-        (row_lines index_text (present bound marks.now) bound matrix.now) out.new result }
+        (row_lines E.text_of (present bound marks.now) bound matrix.now) out.new result }
 {
     let p = net::count_present(bound, marks);
     let mut next = at;
-    let mut r: usize = 0;
-    let mut i: usize = 0;
-    while i < bound {
+    let mut rest = matrix;
+    for i in 0..bound {
         if net::has_index(bound, marks, i) {
-            next = print_hop_row(out, next, matrix, r, p, i);
-            r += 1;
+            let (row, after) = rest.split_at(p);
+            next = print_row(out, next, i, row);
+            rest = after;
         }
-        i += 1;
     }
     next
 }
@@ -245,34 +245,23 @@ pub fn print_path(out: &mut [u8], at: usize, cost: i64, path: &[u32], n: usize) 
     requires { (n ≤ length path.now) × (at + n * 21 + 32 ≤ length out.old) }
     ensures { Printed out.old at (path_lines cost n path.now) out.new result }
 {
-    if !whole::lower(clean::NONE_I64, cost) {
-        return print_word(out, at, &lines::NONE);
+    if clean::NONE_I64 < cost {
+        let next = print_cost(out, at, cost);
+        print_nodes(out, next, &path[..n])
+    } else {
+        print_word(out, at, &lines::NONE)
     }
-    let next = print_cost(out, at, cost);
-    print_nodes(out, next, path, n)
-}
-
-// Puts a space and the pattern of the f64 distance at place i, or none.
-fn put_bits(out: &mut [u8], at: usize, dist: &[u64], i: usize) -> usize
-    requires { (at + 17 ≤ length out.old) × (i < length dist.now) }
-    ensures { Printed out.old at (field (bits_text (get_or dist.now i 0))) out.new result }
-{
-    let d = dist[i];
-    let next = lines::put_space(out, at);
-    if d == clean::NONE_F64 {
-        return lines::put_bytes(out, next, &lines::NONE);
-    }
-    lines::put_hex(out, next, d)
 }
 
 // Puts the line `index bits predecessor`.
 fn print_reached(out: &mut [u8], at: usize, dist: &[u64], preds: &[u32], i: usize) -> usize
     requires { (at + 59 ≤ length out.old) × (i < length dist.now) × (i < length preds.now) }
-    ensures { Printed out.old at (tree_line dist.now preds.now i) out.new result }
+    ensures printed { Printed out.old at (tree_line dist.now preds.now i) out.new result }
+    ensures short { result ≤ at + 59 }
 {
-    let index = lines::put_decimal(out, at, i as u64);
-    let bits = put_bits(out, index, dist, i);
-    let pred = put_index(out, bits, preds[i]);
+    let index = i.put(out, at);
+    let bits = put_field(out, index, dist[i]);
+    let pred = put_field(out, bits, preds[i]);
     lines::put_newline(out, pred)
 }
 
@@ -291,12 +280,10 @@ pub fn print_tree(
         (tree_lines (present bound marks.now) bound dist.now preds.now) out.new result }
 {
     let mut next = at;
-    let mut i: usize = 0;
-    while i < bound {
+    for i in 0..bound {
         if net::has_index(bound, marks, i) {
             next = print_reached(out, next, dist, preds, i);
         }
-        i += 1;
     }
     next
 }

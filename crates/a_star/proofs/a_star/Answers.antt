@@ -1,15 +1,18 @@
 -- `a_star::a_star` meets its contract.
 -- Assumes nothing.
-use mathlib.Core.Path.{sym, ◌∙◌}
+use mathlib.Core.Path.{sym}
+use Rattle.numbers.proofs.Refused.{refused_ne0, handed_on}
 use Rattle.a_star.proofs.Refusals.{refused, passed}
 use Rattle.a_star.proofs.Settles.{ran}
 use Rattle.a_star.proofs.a_star.Goals as goal
 
-pub returns-then-refused-ne0 : goal.returns-then-refused-ne0
-returns-then-refused-ne0 c = refused _ _ _ _ c.refusal-refused.ensures c.if-refused-ne0.true
+pub returns-in_err-refusal-clause-promise : goal.returns-in_err-refusal-clause-promise
+returns-in_err-refusal-clause-promise c =
+    let e = handed_on _ _ c.from_residual.ensures.1 in
+    rw e (refused _ _ _ _ c.in_err-refusal.ensures (refused_ne0 _))
 
 pub solve-requires : goal.solve-requires
-solve-requires c = record { marks = _; fine = passed _ _ _ (sym c.refusal-refused.ensures ∙ c.if-refused-ne0.false) }
+solve-requires c = record { marks = _; fine = (passed _ _ _ (sym c.in_ok-refusal.ensures)) }
 
-pub returns : goal.returns
-returns c = ran (passed _ _ _ (sym c.refusal-refused.ensures ∙ c.if-refused-ne0.false)) (c.solve.ensures _)
+pub returns-clause-promise : goal.returns-clause-promise
+returns-clause-promise c = ran (passed _ _ _ (sym c.in_ok-refusal.ensures)) (c.solve.ensures.solved _)

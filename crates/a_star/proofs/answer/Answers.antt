@@ -1,39 +1,53 @@
 -- `a_star::answer` meets its contract.
 -- Assumes nothing.
-use mathlib.Core.Path.{refl, sym, ap, ◌∙◌}
+use mathlib.Core.Path.{◌≡◌, refl, sym, ap, ◌∙◌}
+use mathlib.Core.Bool.{Bool, true, false}
+use mathlib.Core.List.{List}
+use Prim.Native.Nat.{ℕ}
 use native.Mathlib.Omega.{arith}
-use borrow.Author.Rules.{sfits_of}
-use borrow.Author.Tests.{not-true, not-false}
-use lib.Seq.{length-take-le}
+use borrow.Author.Rules.{rules}
+use lib.IntN.{ℤ, pos}
+use lib.ListN.{get_or}
+use lib.Signed.{lt_z}
 use mir.Syntax.{w64}
-use mir.ValLaws.{to_z-of_z}
+use mir.Val.{to_z, of_z}
+use Rattle.clean.specs.None.{none_i64}
+use Rattle.clean.proofs.Filled.{no_default}
+use Rattle.search.specs.Found.{number_of}
 use Rattle.a_star.specs.Promise.{at_front}
-use Rattle.a_star.specs.Parts.{refused, nowhere, found}
-use Rattle.a_star.proofs.Path.{left_fits, answer_is}
+use Rattle.a_star.specs.Parts.{given, nowhere, found}
+use Rattle.a_star.proofs.Path.{answer_is}
 use Rattle.a_star.proofs.answer.Goals as goal
 
-pub returns-then-number-ne0 : goal.returns-then-number-ne0
-returns-then-number-ne0 c = refused c.if-number-ne0.true refl c.blank_u32.ensures
+-- the target's distance, as the machine reads it
+given_is : (ds : List ℤ) (t : ℕ) (z : ℤ) (b : Bool) → z ≡ get_or ds t none_i64 → lt_z none_i64 z ≡ b → given ds t ≡ b
+unfolding given
+given_is ds t z b e f = ap (lt_z none_i64) (sym e) ∙ f
 
-pub returns-then-not-has_distance : goal.returns-then-not-has_distance
-returns-then-not-has_distance c = nowhere c.if-number-ne0.false (sym c.has_distance.ensures ∙ not-true _ c.if-not-has_distance.true-raw) refl c.blank_u32.ensures
+pub write_path-length-requires-clause-goes_back : goal.write_path-length-requires-clause-goes_back
+write_path-length-requires-clause-goes_back c =
+    let v = c.args in
+    let l = v.memory.now.dist.now in
+    let e : to_z w64 (of_z w64 (get_or l v.target (pos 0))) ≡ get_or l v.target (pos 0) = search rules in
+    let z = e ∙ no_default l v.target (pos 0) none_i64 (omega (arith, c.requires.target, c.requires.dist)) in
+    let zero = ap number_of c.in_ok-found.was in
+    c.requires.back zero (given_is l v.target _ true z c.if-cost-gt-NONE_I64.true)
 
-pub slice_bounds-write_path-end : goal.slice_bounds-write_path-end
-slice_bounds-write_path-end c = sym (length-take-le c.args.m c.args.preds.now c.requires.preds)
+pub returns-then-cost-gt-NONE_I64 : goal.returns-then-cost-gt-NONE_I64
+returns-then-cost-gt-NONE_I64 c =
+    let v = c.args in
+    let l = v.memory.now.dist.now in
+    let e : to_z w64 (of_z w64 (get_or l v.target (pos 0))) ≡ get_or l v.target (pos 0) = search rules in
+    let z = e ∙ no_default l v.target (pos 0) none_i64 (omega (arith, c.requires.target, c.requires.dist)) in
+    let zero = ap number_of c.in_ok-found.was in
+    found zero (given_is l v.target _ true z c.if-cost-gt-NONE_I64.true) (answer_is z c.write_path-length.ensures.value)
+    (c.write_path-length.ensures.path_after ∙ ap (at_front _) c.fill.ensures)
 
-pub write_path-n-requires : goal.write_path-n-requires
-write_path-n-requires c =
-    let l = c.blank_u32 in
-    let w = c.requires in
-    record {
-      preds_len_bound = omega (arith, length-take-le c.args.m c.args.preds.now w.preds, w.bounded);
-      goes_back = w.back c.if-number-ne0.false
-          (sym c.has_distance.ensures ∙ not-false _ c.if-not-has_distance.false-raw);
-      left_in_bounds = left_fits c.args.path.now l.new.s w.path w.target l.auto.s;
-    }
-
-pub returns : goal.returns
-returns c =
-    let d = to_z-of_z w64 c.distance-d.result (sfits_of c.distance-d.type_inv) ∙ c.distance-d.ensures in
-    found c.if-number-ne0.false (sym c.has_distance.ensures ∙ not-false _ c.if-not-has_distance.false-raw) (answer_is d c.write_path-n.ensures.value)
-    (c.write_path-n.ensures.path_after ∙ ap (at_front _) c.blank_u32.ensures)
+pub returns-else-cost-gt-NONE_I64 : goal.returns-else-cost-gt-NONE_I64
+returns-else-cost-gt-NONE_I64 c =
+    let v = c.args in
+    let l = v.memory.now.dist.now in
+    let e : to_z w64 (of_z w64 (get_or l v.target (pos 0))) ≡ get_or l v.target (pos 0) = search rules in
+    let z = e ∙ no_default l v.target (pos 0) none_i64 (omega (arith, c.requires.target, c.requires.dist)) in
+    let zero = ap number_of c.in_ok-found.was in
+    nowhere zero (given_is l v.target _ false z c.if-cost-gt-NONE_I64.false) refl c.fill.ensures

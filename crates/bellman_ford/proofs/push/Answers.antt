@@ -5,7 +5,7 @@ use Prim.Native.Nat.{ℕ, ◌<◌}
 use native.Mathlib.Omega.{arith}
 use lib.ListN.{set}
 use Rattle.bellman_ford.specs.Search.{full, waiting, pushed}
-use Rattle.bellman_ford.proofs.Ring.{slot_below}
+use Rattle.bellman_ford.proofs.Waits.{slot_below}
 use borrow.Author.Rules.{rules}
 use Rattle.bellman_ford.proofs.push.Goals as goal
 use Rattle.bellman_ford.proofs.push.Goals.{After-slot-at}
@@ -26,5 +26,5 @@ bounds-queue-at c = omega (arith, below c)
 pub returns-then-old-eq0 : goal.returns-then-old-eq0
 returns-then-old-eq0 c = pushed c.if-old-eq0.true refl (ap (λ (k : ℕ). set c.args.queue.now k c.args.v) c.slot-at.ensures) refl
 
-pub returns : goal.returns
-returns c = waiting (omega (arith, c.if-m-size.false)) c.if-old-eq0.false refl (ap (λ (k : ℕ). set c.args.queue.now k c.args.v) c.slot-at.ensures) refl
+pub returns-else-old-eq0 : goal.returns-else-old-eq0
+returns-else-old-eq0 c = waiting (omega (arith, c.if-m-size.false)) c.if-old-eq0.false refl (ap (λ (k : ℕ). set c.args.queue.now k c.args.v) c.slot-at.ensures) refl

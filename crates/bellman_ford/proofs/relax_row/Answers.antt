@@ -1,6 +1,7 @@
 -- `bellman_ford::relax_row` meets its contract.
 -- Assumes nothing.
-use Prim.Native.Nat.{◌+◌, ◌<◌}
+use mathlib.Core.Path.{refl}
+use Prim.Native.Nat.{◌<◌}
 use native.Mathlib.Omega.{arith}
 use borrow.Author.Rules.{rules, sfits_of}
 use lib.ListN.{length}
@@ -13,14 +14,14 @@ use Rattle.bellman_ford.proofs.relax_row.Goals.{In-loop-i}
 
 -- a place of the row is a place of the neighbour list
 module _ (c : In-loop-i) where
-  in_heads : c.loop-i.i < length c.args.heads.now
+  in_heads : c.loop-i.i < length c.args.lists.now.heads.now
   in_heads = omega (
     arith,
     c.requires.fit.sound.heads
         c.args.u c.loop-i.invariant.state.index,
   )
 
-  in_weights : c.loop-i.i < length c.args.weights.now
+  in_weights : c.loop-i.i < length c.args.lists.now.weights.now
   in_weights = omega (
     arith,
     c.requires.fit.sound.weights
@@ -36,28 +37,22 @@ offset_bounds-heads-i c = let h = in_heads c in search rules
 pub bounds-heads-i : goal.bounds-heads-i
 bounds-heads-i c = in_heads (goal.at.bounds-heads-i c).In-loop-i
 
-pub overflow_cast-v : goal.overflow_cast-v
-overflow_cast-v c = omega (arith, c.shared_slice_known-in-loop-i-1.given c.loop-i.i)
-
 pub offset_bounds-weights-i : goal.offset_bounds-weights-i
 offset_bounds-weights-i c = let h = in_weights (goal.at.offset_bounds-weights-i c).In-loop-i in search rules
 
 pub bounds-weights-i : goal.bounds-weights-i
 bounds-weights-i c = in_weights (goal.at.bounds-weights-i c).In-loop-i
 
-pub relax_arc-t-requires : goal.relax_arc-t-requires
-relax_arc-t-requires c = safe_at (to_z-of_z w64 _ (sfits_of c.relax_arc-arg-1.given)) (safe c.requires.fit c.loop-i.invariant.state c.loop-i-test.true)
+pub relax_arc-requires : goal.relax_arc-requires
+relax_arc-requires c = safe_at c.from-v.ensures (to_z-of_z w64 _ (sfits_of c.relax_arc-arg-1.given)) (safe c.requires.fit c.loop-i.invariant.state c.loop-i-test.true)
 
-pub returns-then-t : goal.returns-then-t
-returns-then-t c = row_stops c.requires.fit c.loop-i.invariant c.loop-i-test.true (relaxed_at (to_z-of_z w64 _ (sfits_of c.relax_arc-arg-1.given)) c.relax_arc-t.ensures)
-    c.if-t.true
-
-pub overflow_add-i : goal.overflow_add-i
-overflow_add-i c = omega (arith, c.loop-i-test.true, c.shared_slice_known-3-1.given (c.args.u + 1))
+pub returns-in_err-size : goal.returns-in_err-size
+returns-in_err-size c = row_stops c.requires.fit c.loop-i.invariant c.loop-i-test.true
+    (relaxed_at c.from-v.ensures (to_z-of_z w64 _ (sfits_of c.relax_arc-arg-1.given)) c.in_err-size.was c.relax_arc.ensures) refl c.from_residual.ensures.0
 
 pub loop-i-preserved : goal.loop-i-preserved
-loop-i-preserved c = row_next c.requires.fit c.loop-i.invariant c.loop-i-test.true (relaxed_at (to_z-of_z w64 _ (sfits_of c.relax_arc-arg-1.given)) c.relax_arc-t.ensures)
-    c.if-t.false
+loop-i-preserved c = row_next c.requires.fit c.loop-i.invariant c.loop-i-test.true
+    (relaxed_at c.from-v.ensures (to_z-of_z w64 _ (sfits_of c.relax_arc-arg-1.given)) c.in_ok-size.was c.relax_arc.ensures) refl
 
 pub returns : goal.returns
 returns c = row_ends c.requires.fit c.loop-i.invariant c.loop-i-test.false

@@ -35,43 +35,43 @@ module _ (e : In_ok-refusal) where
 pub most_arcs-a-requires : goal.most_arcs-a-requires
 most_arcs-a-requires c = (whole_floats _ _ c.args.net.map.directed _ _ _ _ _ (ok c).whole).links
 
-pub position_csr_f64-requires-clause-ready : goal.position_csr_f64-requires-clause-ready
-position_csr_f64-requires-clause-ready c =
-    let x = ok (goal.at.position_csr_f64-requires-clause-ready c).In_ok-refusal in
+pub position_csr-requires-clause-ready : goal.position_csr-requires-clause-ready
+position_csr-requires-clause-ready c =
+    let x = ok (goal.at.position_csr-requires-clause-ready c).In_ok-refusal in
     let v = c.args.net in
     ready_floats v.map.bound v.map.count v.map.directed v.marks.now v.from.now v.to.now v.costs.bits.now v.costs.opens.now x.whole x.inside
 
-pub position_csr_f64-requires-clause-enough_for : goal.position_csr_f64-requires-clause-enough_for
-position_csr_f64-requires-clause-enough_for c = room (ok (goal.at.position_csr_f64-requires-clause-enough_for c).In_ok-refusal)
+pub position_csr-requires-clause-enough_for : goal.position_csr-requires-clause-enough_for
+position_csr-requires-clause-enough_for c = room (ok (goal.at.position_csr-requires-clause-enough_for c).In_ok-refusal)
 
 pub run-found-requires-clause-fit : goal.run-found-requires-clause-fit
 run-found-requires-clause-fit c =
     let x = ok (goal.at.run-found-requires-clause-fit c).In_ok-refusal in
-    record { rows = list_sound x c.position_csr_f64.ensures.rows; source = source_below x }
+    record { rows = list_sound x c.position_csr.ensures.rows; source = source_below x }
 
 pub run-found-requires-clause-enough_memory : goal.run-found-requires-clause-enough_memory
 run-found-requires-clause-enough_memory c = (ok (goal.at.run-found-requires-clause-enough_memory c).In_ok-refusal).memory
 
 pub wipe-requires : goal.wipe-requires
-wipe-requires c = (wipes (ok (goal.at.wipe-requires c).In_ok-refusal) c.position_csr_f64.ensures.rows c.limit-limit.result c.run-found.ensures.ran c.most_arcs-a.ensures).0
+wipe-requires c = (wipes (ok (goal.at.wipe-requires c).In_ok-refusal) c.position_csr.ensures.rows c.limit-limit.result c.run-found.ensures.ran c.most_arcs-a.ensures).0
 
 pub wipe_bag-requires : goal.wipe_bag-requires
-wipe_bag-requires c = (wipes (ok (goal.at.wipe_bag-requires c).In_ok-refusal) c.position_csr_f64.ensures.rows c.limit-limit.result c.run-found.ensures.ran c.most_arcs-a.ensures).1
+wipe_bag-requires c = (wipes (ok (goal.at.wipe_bag-requires c).In_ok-refusal) c.position_csr.ensures.rows c.limit-limit.result c.run-found.ensures.ran c.most_arcs-a.ensures).1
 
 pub fill-requires : goal.fill-requires
 fill-requires c =
-    dist_room (ok (goal.at.fill-requires c).In_ok-refusal) c.position_csr_f64.ensures.rows c.limit-limit.result c.run-found.ensures.ran c.most_arcs-a.ensures c.wipe_bag.ensures.wiped
+    dist_room (ok (goal.at.fill-requires c).In_ok-refusal) c.position_csr.ensures.rows c.limit-limit.result c.run-found.ensures.ran c.most_arcs-a.ensures c.wipe_bag.ensures.wiped
 
 pub fill-requires-in-Err : goal.fill-requires-in-Err
 fill-requires-in-Err c =
-    preds_room (ok (goal.at.fill-requires-in-Err c).In_ok-refusal) c.position_csr_f64.ensures.rows c.limit-limit.result c.run-found.ensures.ran c.most_arcs-a.ensures c.wipe_bag.ensures.wiped
+    preds_room (ok (goal.at.fill-requires-in-Err c).In_ok-refusal) c.position_csr.ensures.rows c.limit-limit.result c.run-found.ensures.ran c.most_arcs-a.ensures c.wipe_bag.ensures.wiped
 
 pub returns-in-Ok-clause-promise : goal.returns-in-Ok-clause-promise
 returns-in-Ok-clause-promise c =
-    answer_done (ok (goal.at.returns-in-Ok-clause-promise c).In_ok-refusal) c.position_csr_f64.ensures.rows c.limit-limit.result c.run-found.ensures.ran c.most_arcs-a.ensures
+    answer_done (ok (goal.at.returns-in-Ok-clause-promise c).In_ok-refusal) c.position_csr.ensures.rows c.limit-limit.result c.run-found.ensures.ran c.most_arcs-a.ensures
     c.wipe_bag.ensures.wiped c.wipe.ensures.wiped c.limit-limit.ensures (ap number_of c.in-Ok.is)
 
 pub returns-in-Err-clause-promise : goal.returns-in-Err-clause-promise
 returns-in-Err-clause-promise c =
-    answer_bad (ok (goal.at.returns-in-Err-clause-promise c).In_ok-refusal) c.position_csr_f64.ensures.rows c.limit-limit.result c.run-found.ensures.ran c.most_arcs-a.ensures
+    answer_bad (ok (goal.at.returns-in-Err-clause-promise c).In_ok-refusal) c.position_csr.ensures.rows c.limit-limit.result c.run-found.ensures.ran c.most_arcs-a.ensures
     c.wipe_bag.ensures.wiped c.wipe.ensures.wiped c.limit-limit.ensures (ap number_of c.in-Err.is) c.fill.ensures c.fill-in-Err.ensures (ap no_of c.into.ensures)

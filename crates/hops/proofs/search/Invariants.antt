@@ -5,7 +5,7 @@ use Rattle.hops.proofs.Waves.{Searching}
 use Rattle.hops.proofs.search.Given as goal
 
 abbrev pub invariant-loop-head : goal.invariant-loop-head
-invariant-loop-head l = Searching l.m l.source l.offsets l.heads l.head l.size l.initial.labels l.initial.queue l.labels l.queue
+invariant-loop-head l = Searching l.rows.bound l.source l.rows.offsets.now l.rows.heads.now l.head l.size l.initial.labels l.initial.queue l.labels l.queue
 
 abbrev pub decreases-loop-head : goal.decreases-loop-head
-decreases-loop-head l = l.m - l.head
+decreases-loop-head l = l.rows.bound - l.head

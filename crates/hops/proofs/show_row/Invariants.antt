@@ -1,11 +1,7 @@
 -- `hops::show_row` meets its contract.
 -- Assumes nothing.
-use Prim.Native.Nat.{◌-◌, ◌≤◌}
 use Rattle.hops.specs.Search.{RowShown}
 use Rattle.hops.proofs.show_row.Given as goal
 
 abbrev pub invariant-loop-j : goal.invariant-loop-j
-invariant-loop-j l = (l.j ≤ l.p) × RowShown l.j l.at l.nodes l.labels l.initial.matrix l.matrix
-
-abbrev pub decreases-loop-j : goal.decreases-loop-j
-decreases-loop-j l = l.p - l.j
+invariant-loop-j l = RowShown l.j l.at l.nodes l.labels l.initial.matrix l.matrix

@@ -1,131 +1,78 @@
 -- `johnson::johnson` meets its contract: each answer is a law of proofs/Answers.antt, at what the calls gave.
--- A refusal returns before the first write. Past it p and the room of the arcs are computed, the map is solved, and the scratch is wiped whatever the answer is;
--- after a yes the matrix is blanked.
+-- A refusal returns before the first write. Past it the map is solved, and the scratch is wiped whatever the answer is; after a yes the matrix is blanked.
 -- Assumes nothing.
 use mathlib.Core.Path.{◌≡◌, sym, ◌∙◌}
-use lib.IntN.{ℤ}
 use native.Mathlib.Omega.{arith}
-use Rattle.net.specs.Net.{Net, net_of}
+use Rattle.numbers.specs.Refusal.{no_of, number_of}
+use Rattle.numbers.proofs.Refused.{refused_ne0, number_handed_on}
+use Rattle.net.specs.Net.{int_net}
 use Rattle.net.proofs.Bounds.{Whole, width_small}
 use Rattle.matrix.proofs.Matrix.{square_small}
-use Rattle.johnson.specs.Promise.{Scratch, scratch_of}
+use Rattle.rows.specs.Rows.{lists_in}
+use Rattle.search.specs.Lists.{memory_in}
+use Rattle.johnson.specs.Promise.{scratch, wiped_all}
 use Rattle.johnson.specs.Parts.{refusal_no}
 use Rattle.johnson.proofs.Refusals.{refused, passed, limits}
 use Rattle.johnson.proofs.Answers.{room_after, blank_room, answer_yes, answer_no}
 use Rattle.johnson.proofs.johnson.Goals as goal
-use Rattle.johnson.proofs.johnson.Goals.{Else-refused-ne0}
+use Rattle.johnson.proofs.johnson.Goals.{In_ok-refusal, After-wipe-2}
 
 -- past the refusals
-module _ (e : Else-refused-ne0) where
-  abbrev lent : Net ℤ
-  lent = net_of e.args.map.bound e.args.map.count e.args.map.directed e.args.marks.now e.args.from.now e.args.to.now e.args.costs.now
+module _ (e : In_ok-refusal) where
+  no_refusal : refusal_no (int_net e.args.net) e.args.matrix.now (scratch (lists_in e.args.lists.now) e.args.heights.now (memory_in e.args.memory.now)) ≡ 0
+  no_refusal = sym e.in_ok-refusal.ensures
 
-  abbrev scratch : Scratch
-  scratch =
-      scratch_of e.args.offsets.now e.args.heads.now e.args.weights.now e.args.heights.now e.args.dist.now e.args.preds.now
-      e.args.peaks.now e.args.words.now e.args.keys.now
-
-  no_refusal : refusal_no lent e.args.matrix.now scratch ≡ 0
-  no_refusal = sym e.refusal-refused.ensures ∙ e.if-refused-ne0.false
-
-  map_whole : Whole lent
+  map_whole : Whole (int_net e.args.net)
   map_whole =
-      limits e.args.map.bound e.args.map.count e.args.map.directed e.args.marks.now e.args.from.now e.args.to.now e.args.costs.now
-      e.args.matrix.now scratch no_refusal
+      let n = e.args.net in
+      limits n.map.bound n.map.count n.map.directed n.marks.now n.from.now n.to.now n.costs.costs.now e.args.matrix.now _ no_refusal
 
-pub returns-then-refused-ne0 : goal.returns-then-refused-ne0
-returns-then-refused-ne0 c = refused _ _ _ _ c.refusal-refused.ensures c.if-refused-ne0.true
+-- the scratch after the three wipes
+module _ (e : After-wipe-2) where
+  wiped : scratch (lists_in e.wipe.new.self) e.fill.new.s (memory_in e.wipe-2.new.self)
+      ≡ wiped_all e.args.net.map.bound e.most_arcs.result (scratch (lists_in e.solve-negative.new.lists) e.solve-negative.new.heights (memory_in e.solve-negative.new.memory))
+  wiped = λ i. record { rows = e.wipe.ensures.wiped i; heights = e.fill.ensures i; memory = e.wipe-2.ensures.wiped i }
 
-pub most_arcs-a-requires : goal.most_arcs-a-requires
-most_arcs-a-requires c = (map_whole c).links
-
-pub count_present-p-requires : goal.count_present-p-requires
-count_present-p-requires c = (map_whole (goal.at.count_present-p-requires c).Else-refused-ne0).marked
+pub returns-in_err-refusal-clause-promise : goal.returns-in_err-refusal-clause-promise
+returns-in_err-refusal-clause-promise c =
+    let e : number_of c.from_residual.result ≡ no_of c.in_err-refusal.field-0.0 = number_handed_on _ _ c.from_residual.ensures.1 in
+    refused _ _ _ _ (e ∙ c.in_err-refusal.ensures) (λ z. refused_ne0 _ (sym e ∙ z))
 
 pub solve-negative-requires : goal.solve-negative-requires
-solve-negative-requires c = passed _ _ _ (no_refusal (goal.at.solve-negative-requires c).Else-refused-ne0)
+solve-negative-requires c = passed _ _ _ (no_refusal (goal.at.solve-negative-requires c).In_ok-refusal)
+
+pub most_arcs-requires : goal.most_arcs-requires
+most_arcs-requires c = (map_whole (goal.at.most_arcs-requires c).In_ok-refusal).links
 
 pub wipe-requires : goal.wipe-requires
-wipe-requires c = room_after _ _ _ (no_refusal (goal.at.wipe-requires c).Else-refused-ne0) c.most_arcs-a.ensures c.solve-negative.ensures
+wipe-requires c = (room_after _ _ _ (no_refusal (goal.at.wipe-requires c).In_ok-refusal) c.most_arcs.ensures c.solve-negative.ensures.solved).rows
+
+pub fill-requires : goal.fill-requires
+fill-requires c = (room_after _ _ _ (no_refusal (goal.at.fill-requires c).In_ok-refusal) c.most_arcs.ensures c.solve-negative.ensures.solved).heights
+
+pub wipe-requires-2 : goal.wipe-requires-2
+wipe-requires-2 c = (room_after _ _ _ (no_refusal (goal.at.wipe-requires-2 c).In_ok-refusal) c.most_arcs.ensures c.solve-negative.ensures.solved).memory
+
+pub count_present-p-requires : goal.count_present-p-requires
+count_present-p-requires c = (map_whole (goal.at.count_present-p-requires c).In_ok-refusal).marked
 
 pub overflow_mul-p : goal.overflow_mul-p
 overflow_mul-p c =
-    let p = (goal.at.overflow_mul-p c).Else-refused-ne0 in
     let n = c.count_present-p in
-    omega (arith, n.ensures, square_small n.result (omega (arith, n.ensures, width_small (map_whole p))))
+    omega (arith, n.ensures, square_small n.result (omega (arith, n.ensures, width_small (map_whole (goal.at.overflow_mul-p c).In_ok-refusal))))
 
-pub blank_i64-requires : goal.blank_i64-requires
-blank_i64-requires c =
-    let p = (goal.at.blank_i64-requires c).Else-refused-ne0 in
-    blank_room _ _ _ (no_refusal p) c.most_arcs-a.ensures c.solve-negative.ensures c.wipe.ensures c.count_present-p.ensures
+pub fill-requires-then-negative : goal.fill-requires-then-negative
+fill-requires-then-negative c =
+    let p = (goal.at.fill-requires-then-negative c).In_ok-refusal in
+    blank_room _ _ _ (no_refusal p) c.most_arcs.ensures c.solve-negative.ensures.solved (wiped (goal.at.fill-requires-then-negative c).After-wipe-2) c.count_present-p.ensures
 
-pub shape_of-matrix-then-negative : goal.shape_of-matrix-then-negative
-shape_of-matrix-then-negative c = c.blank_i64.auto.s ∙ c.solve-negative.auto.matrix
+pub returns-then-negative-clause-promise : goal.returns-then-negative-clause-promise
+returns-then-negative-clause-promise c =
+    let p = goal.at.returns-then-negative-clause-promise c in
+    answer_yes _ _ _ (no_refusal p.In_ok-refusal) c.most_arcs.ensures c.solve-negative.ensures.solved (wiped p.After-wipe-2)
+    c.count_present-p.ensures c.fill-then-negative.ensures c.if-negative.true
 
-pub shape_of-offsets-then-negative : goal.shape_of-offsets-then-negative
-shape_of-offsets-then-negative c = c.wipe.auto.offsets ∙ c.solve-negative.auto.offsets
-
-pub shape_of-heads-then-negative : goal.shape_of-heads-then-negative
-shape_of-heads-then-negative c = c.wipe.auto.heads ∙ c.solve-negative.auto.heads
-
-pub shape_of-weights-then-negative : goal.shape_of-weights-then-negative
-shape_of-weights-then-negative c = c.wipe.auto.weights ∙ c.solve-negative.auto.weights
-
-pub shape_of-heights-then-negative : goal.shape_of-heights-then-negative
-shape_of-heights-then-negative c = c.wipe.auto.heights ∙ c.solve-negative.auto.heights
-
-pub shape_of-dist-then-negative : goal.shape_of-dist-then-negative
-shape_of-dist-then-negative c = c.wipe.auto.dist ∙ c.solve-negative.auto.dist
-
-pub shape_of-preds-then-negative : goal.shape_of-preds-then-negative
-shape_of-preds-then-negative c = c.wipe.auto.preds ∙ c.solve-negative.auto.preds
-
-pub shape_of-peaks-then-negative : goal.shape_of-peaks-then-negative
-shape_of-peaks-then-negative c = c.wipe.auto.peaks ∙ c.solve-negative.auto.peaks
-
-pub shape_of-words-then-negative : goal.shape_of-words-then-negative
-shape_of-words-then-negative c = c.wipe.auto.words ∙ c.solve-negative.auto.words
-
-pub shape_of-keys-then-negative : goal.shape_of-keys-then-negative
-shape_of-keys-then-negative c = c.wipe.auto.keys ∙ c.solve-negative.auto.keys
-
-pub returns-then-negative : goal.returns-then-negative
-returns-then-negative c =
-    let p = (goal.at.returns-then-negative c).Else-refused-ne0 in
-    answer_yes _ _ _ (no_refusal p) c.most_arcs-a.ensures c.solve-negative.ensures c.wipe.ensures
-    c.count_present-p.ensures c.blank_i64.ensures c.if-negative.true
-
-pub shape_of-matrix : goal.shape_of-matrix
-shape_of-matrix c = c.solve-negative.auto.matrix
-
-pub shape_of-offsets : goal.shape_of-offsets
-shape_of-offsets c = c.wipe.auto.offsets ∙ c.solve-negative.auto.offsets
-
-pub shape_of-heads : goal.shape_of-heads
-shape_of-heads c = c.wipe.auto.heads ∙ c.solve-negative.auto.heads
-
-pub shape_of-weights : goal.shape_of-weights
-shape_of-weights c = c.wipe.auto.weights ∙ c.solve-negative.auto.weights
-
-pub shape_of-heights : goal.shape_of-heights
-shape_of-heights c = c.wipe.auto.heights ∙ c.solve-negative.auto.heights
-
-pub shape_of-dist : goal.shape_of-dist
-shape_of-dist c = c.wipe.auto.dist ∙ c.solve-negative.auto.dist
-
-pub shape_of-preds : goal.shape_of-preds
-shape_of-preds c = c.wipe.auto.preds ∙ c.solve-negative.auto.preds
-
-pub shape_of-peaks : goal.shape_of-peaks
-shape_of-peaks c = c.wipe.auto.peaks ∙ c.solve-negative.auto.peaks
-
-pub shape_of-words : goal.shape_of-words
-shape_of-words c = c.wipe.auto.words ∙ c.solve-negative.auto.words
-
-pub shape_of-keys : goal.shape_of-keys
-shape_of-keys c = c.wipe.auto.keys ∙ c.solve-negative.auto.keys
-
-pub returns : goal.returns
-returns c =
-    let p = (goal.at.returns c).Else-refused-ne0 in
-    answer_no _ _ _ (no_refusal p) c.most_arcs-a.ensures c.solve-negative.ensures c.wipe.ensures c.if-negative.false
+pub returns-else-negative-clause-promise : goal.returns-else-negative-clause-promise
+returns-else-negative-clause-promise c =
+    let p = goal.at.returns-else-negative-clause-promise c in
+    answer_no _ _ _ (no_refusal p.In_ok-refusal) c.most_arcs.ensures c.solve-negative.ensures.solved (wiped p.After-wipe-2) c.if-negative.false

@@ -1,14 +1,17 @@
 -- `johnson::potentials` meets its contract.
 -- Assumes nothing.
-use Rattle.johnson.proofs.Steps.{ask_shallow}
-use Rattle.johnson.proofs.Tests.{answered, test_ready}
+use Rattle.johnson.proofs.Steps.{ask_shallow, rounds_start, rounds_next}
+use Rattle.johnson.proofs.Tests.{answer_no, answered}
 use Rattle.johnson.proofs.potentials.Goals as goal
 
-pub all_rounds-requires : goal.all_rounds-requires
-all_rounds-requires c = (c.requires.sound, c.requires.few, ask_shallow c.requires)
+pub loop-round-init : goal.loop-round-init
+loop-round-init c = rounds_start _ _ _ _ (ask_shallow c.requires)
 
-pub any_improves-requires : goal.any_improves-requires
-any_improves-requires c = test_ready c.requires c.all_rounds.ensures
+pub returns-then-not-round : goal.returns-then-not-round
+returns-then-not-round c = answer_no c.requires c.loop-round.invariant c.round.ensures c.if-not-round.true
+
+pub loop-round-preserved : goal.loop-round-preserved
+loop-round-preserved c = rounds_next c.loop-round.invariant c.round.ensures c.loop-round-test.true
 
 pub returns : goal.returns
-returns c = answered c.requires c.all_rounds.ensures c.any_improves.ensures
+returns c = answered c.requires c.loop-round.invariant c.round-2.ensures c.loop-round-test.false

@@ -6,33 +6,33 @@ use Rattle.johnson.proofs.prepare.Goals as goal
 pub count_present-p-requires : goal.count_present-p-requires
 count_present-p-requires c =
     let a = c.args in
-    marked a.map.bound a.map.count a.map.directed a.marks.now a.from.now a.to.now a.costs.now c.requires
+    marked a.net.map.bound a.net.map.count a.net.map.directed a.net.marks.now a.net.from.now a.net.to.now a.net.costs.costs.now c.requires
 
 pub potentials-requires : goal.potentials-requires
 potentials-requires c =
     let a = c.args in
-    ask a.map.bound a.map.count a.map.directed a.marks.now a.from.now a.to.now a.costs.now c.requires c.count_present-p.ensures c.clear_i64.ensures
+    ask a.net.map.bound a.net.map.count a.net.map.directed a.net.marks.now a.net.from.now a.net.to.now a.net.costs.costs.now c.requires c.count_present-p.ensures c.fill.ensures
 
-pub returns-then-potentials : goal.returns-then-potentials
-returns-then-potentials c =
+pub returns-then-potentials-clause-prepared : goal.returns-then-potentials-clause-prepared
+returns-then-potentials-clause-prepared c =
     let a = c.args in
-    prepared_yes a.map.bound a.map.count a.map.directed a.marks.now a.from.now a.to.now a.costs.now c.requires
-    c.clear_i64.ensures c.potentials.ensures c.if-potentials.true
+    prepared_yes a.net.map.bound a.net.map.count a.net.map.directed a.net.marks.now a.net.from.now a.net.to.now a.net.costs.costs.now c.requires
+    c.fill.ensures c.potentials.ensures c.if-potentials.true
 
 pub position_csr-requires : goal.position_csr-requires
 position_csr-requires c =
     let a = c.args in
-    let g = can_list a.map.bound a.map.count a.map.directed a.marks.now a.from.now a.to.now a.costs.now c.requires in record { ready = g.0; enough_for = g.1 }
+    let g = can_list a.net.map.bound a.net.map.count a.net.map.directed a.net.marks.now a.net.from.now a.net.to.now a.net.costs.costs.now c.requires in record { ready = g.0; enough_for = g.1 }
 
 pub shift_all-requires : goal.shift_all-requires
 shift_all-requires c =
     let a = c.args in
-    listed a.map.bound a.map.count a.map.directed a.marks.now a.from.now a.to.now a.costs.now c.requires
-    c.count_present-p.ensures c.clear_i64.ensures c.potentials.ensures c.if-potentials.false c.position_csr.ensures.rows c.position_csr.ensures.costs32
+    listed a.net.map.bound a.net.map.count a.net.map.directed a.net.marks.now a.net.from.now a.net.to.now a.net.costs.costs.now c.requires
+    c.count_present-p.ensures c.fill.ensures c.potentials.ensures c.if-potentials.false c.position_csr.ensures.rows c.position_csr.ensures.known
 
-pub returns : goal.returns
-returns c =
+pub returns-clause-prepared : goal.returns-clause-prepared
+returns-clause-prepared c =
     let a = c.args in
-    prepared_no a.map.bound a.map.count a.map.directed a.marks.now a.from.now a.to.now a.costs.now c.requires
-    c.count_present-p.ensures c.clear_i64.ensures c.potentials.ensures c.if-potentials.false
-    c.position_csr.ensures.rows c.position_csr.ensures.costs32 c.shift_all.ensures
+    prepared_no a.net.map.bound a.net.map.count a.net.map.directed a.net.marks.now a.net.from.now a.net.to.now a.net.costs.costs.now c.requires
+    c.count_present-p.ensures c.fill.ensures c.potentials.ensures c.if-potentials.false
+    c.position_csr.ensures.rows c.position_csr.ensures.known c.shift_all.ensures

@@ -2,21 +2,11 @@
 -- Assumes nothing.
 use borrow.Author.Rules.{rules, sfits_of}
 use mathlib.Core.Path.{◌∙◌}
-use native.Mathlib.Omega.{arith}
 use mir.Syntax.{w64}
 use mir.ValLaws.{to_z-of_z}
-use Rattle.johnson.proofs.Shows.{show_first, show_room, show_asks, show_next, show_skip, show_last}
+use Rattle.johnson.proofs.Shows.{show_room, show_next, show_skip}
 use Rattle.johnson.proofs.show_row.Goals as goal
 use Rattle.johnson.proofs.show_row.Goals.{then-marks-v-ne0, else-marks-v-ne0}
-
-pub loop-v-init : goal.loop-v-init
-loop-v-init c = show_first
-
-pub bounds-marks-v : goal.bounds-marks-v
-bounds-marks-v c = omega (arith, c.requires.marked)
-
-pub shift_back-requires : goal.shift_back-requires
-shift_back-requires c = show_asks c.requires c.loop-v.invariant c.loop-v-test.true
 
 pub overflow_add-at : goal.overflow_add-at
 overflow_add-at c =
@@ -36,18 +26,9 @@ overflow_add-j c =
     let h = show_room c.requires c.loop-v.invariant c.loop-v-test.true c.if-marks-v-ne0.true in
     search rules
 
-pub overflow_add-v : goal.overflow_add-v
-overflow_add-v c = omega (arith, c.requires.bounded)
-
 pub loop-v-preserved : goal.loop-v-preserved
 loop-v-preserved c = elim c.if-marks-v-ne0.branch [
   | then-marks-v-ne0 k ↦ rw (k.matrix-is, k.j-is) (show_next c.requires c.loop-v.invariant c.loop-v-test.true _ k.if-marks-v-ne0.true
       (to_z-of_z w64 _ (sfits_of k.shift_back.type_inv) ∙ k.shift_back.ensures))
   | else-marks-v-ne0 k ↦ rw (k.matrix-is, k.j-is) (show_skip c.requires c.loop-v.invariant c.loop-v-test.true k.if-marks-v-ne0.false)
 ]
-
-pub shape_of-matrix : goal.shape_of-matrix
-shape_of-matrix c = c.loop-v.invariant.row.long
-
-pub returns : goal.returns
-returns c = show_last c.loop-v.invariant c.loop-v-test.false

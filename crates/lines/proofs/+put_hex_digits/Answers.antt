@@ -16,8 +16,8 @@ put_byte-requires t c =
     let v = c.args in
     omega (arith, c.put_hex_digits-next.ensures.ends, c.put_hex_digits-next.auto.out, c.requires, c.if-places-eq0.false, hex_length (v.places - 1) (v.n / 16))
 
-pub returns : goal.returns
-returns t c =
+pub returns-else-places-eq0 : goal.returns-else-places-eq0
+returns-else-places-eq0 t c =
     let v = c.args in
     let p : 0 < v.places = omega (arith, c.if-places-eq0.false) in
     last_byte v.out.now v.at (hex (v.places - 1) (v.n / 16)) (glyph (v.n % 16)) (hex v.places v.n) c.put_hex_digits-next.new.out c.put_byte.new.out

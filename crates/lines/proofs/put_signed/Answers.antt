@@ -1,64 +1,37 @@
 -- `lines::put_signed` meets its contract: the sign, and then the size.
 -- Assumes nothing.
-use mathlib.Core.Path.{◌≡◌, sym, ap, ◌∙◌}
-use mathlib.Core.Bool.{true, false}
-use mathlib.Core.List.{[], ◌∷◌}
-use Prim.Native.Nat.{ℕ, suc, ◌+◌}
+use mathlib.Core.Path.{◌≡◌, ap}
+use mathlib.Core.List.{List, ◌++◌}
+use Prim.Native.Nat.{ℕ, ◌+◌, ◌≤◌}
 use native.Mathlib.Omega.{arith}
-use lib.ListN.{length}
-use Rattle.lines.specs.Text.{decimal_text, signed_text, below_zero}
-use lib.IntN.{ℤ}
-use lib.Signed.{mag}
-use mir.ValLaws.{to_z-of_z}
-use mir.Syntax.{w64}
+use lib.ListN.{length, length-append}
+use Rattle.lines.specs.Text.{Printed, decimal_text}
 use Rattle.lines.proofs.Sizes.{text_below, text_from}
-use Rattle.lines.proofs.Places.{printed_more}
+use Rattle.lines.proofs.Places.{no_byte, printed_more}
 use Rattle.lines.proofs.put_signed.Goals as goal
-use Rattle.lines.proofs.put_signed.Goals.{Else-below_zero, Then-below_zero}
+use Rattle.lines.proofs.put_signed.Goals.{then-n-lt0, else-n-lt0}
 
--- what the test says, of the number as it came
-below : (c : Then-below_zero) → below_zero c.args.n ≡ true
-below c = ap below_zero (sym (to_z-of_z w64 c.args.n c.ranges.n)) ∙ sym c.below_zero.ensures ∙ c.if-below_zero.true
+-- a text of two parts: the first was printed, and then the second
+module _ {text first rest : List ℕ} (e : text ≡ first ++ rest) {out one : List ℕ} {at k : ℕ} (h : at + length text ≤ length out) (p : Printed out at first one k) where
+  both : (two : List ℕ) (r : ℕ) → Printed one k rest two r → Printed out at text two r
+  both two r q = rw e (printed_more out at first (omega (arith, ap length e, length-append first rest, h)) rest one two k r p q)
 
-above : (c : Else-below_zero) → below_zero c.args.n ≡ false
-above c = ap below_zero (sym (to_z-of_z w64 c.args.n c.ranges.n)) ∙ sym c.below_zero.ensures ∙ c.if-below_zero.false
-
-pub put_byte-next-requires : goal.put_byte-next-requires
-put_byte-next-requires c = omega (arith, ap length (text_below c.args.n (below (goal.at.put_byte-next-requires c).Then-below_zero)), c.requires)
-
-pub size_below-requires : goal.size_below-requires
-size_below-requires c = sym c.below_zero.ensures ∙ c.if-below_zero.true
+pub put_byte-digits-requires : goal.put_byte-digits-requires
+put_byte-digits-requires c = omega (arith, ap length (text_below c.args.n c.ranges.n c.if-n-lt0.true), c.requires)
 
 pub put_decimal-requires : goal.put_decimal-requires
 put_decimal-requires c =
-    let e = text_below c.args.n (below (goal.at.put_decimal-requires c).Then-below_zero) in
-    let s : c.size_below.result ≡ mag c.args.n + 1 = c.size_below.ensures ∙ ap (λ (z : ℤ). mag z + 1) (to_z-of_z w64 c.args.n c.ranges.n) in
-    let l : length (signed_text c.args.n) ≡ suc (length (decimal_text c.size_below.result)) = ap length e ∙ ap (λ (k : ℕ). suc (length (decimal_text k))) (sym s) in
-    omega (arith, l, c.put_byte-next.ensures.ends, c.put_byte-next.auto.out, c.requires)
-
-pub returns-then-below_zero : goal.returns-then-below_zero
-returns-then-below_zero c =
-    let e = text_below c.args.n (below (goal.at.returns-then-below_zero c).Then-below_zero) in
-    let s : c.size_below.result ≡ mag c.args.n + 1 = c.size_below.ensures ∙ ap (λ (z : ℤ). mag z + 1) (to_z-of_z w64 c.args.n c.ranges.n) in
-    let l : length (signed_text c.args.n) ≡ suc (length (decimal_text (mag c.args.n + 1))) = ap length e in
-    rw e
-    (rw (← s)
-    (printed_more c.args.out.now c.args.at (45 ∷ []) (omega (arith, l, c.requires)) (decimal_text c.size_below.result)
-    c.put_byte-next.new.out c.put_decimal.new.out
-    c.put_byte-next.result c.put_decimal.result
-    c.put_byte-next.ensures c.put_decimal.ensures))
-
-pub size_from-requires : goal.size_from-requires
-size_from-requires c = sym c.below_zero.ensures ∙ c.if-below_zero.false
-
-pub put_decimal-requires-2 : goal.put_decimal-requires-2
-put_decimal-requires-2 c =
-    let s : c.size_from.result ≡ mag c.args.n = c.size_from.ensures ∙ ap mag (to_z-of_z w64 c.args.n c.ranges.n) in
-    let l : length (signed_text c.args.n) ≡ length (decimal_text c.size_from.result) =
-    ap length (text_from c.args.n (above (goal.at.put_decimal-requires-2 c).Else-below_zero)) ∙ ap (λ (k : ℕ). length (decimal_text k)) (sym s) in
-    omega (arith, l, c.requires)
+    let a = ap (λ (k : ℕ). length (decimal_text k)) c.unsigned_abs.ensures.value in
+    elim c.if-n-lt0.branch [
+      | then-n-lt0 w ↦ omega (arith, ap length (text_below c.args.n c.ranges.n w.if-n-lt0.true), a, w.digits-is, w.put_byte-digits.ensures.ends, c.if-n-lt0.auto.out, c.requires)
+      | else-n-lt0 w ↦ omega (arith, ap length (text_from c.args.n c.ranges.n w.if-n-lt0.false), a, w.digits-is, c.if-n-lt0.auto.out, c.requires)
+    ]
 
 pub returns : goal.returns
 returns c =
-    let s : c.size_from.result ≡ mag c.args.n = c.size_from.ensures ∙ ap mag (to_z-of_z w64 c.args.n c.ranges.n) in
-    rw (text_from c.args.n (above (goal.at.returns c).Else-below_zero)) (rw (← s) c.put_decimal-2.ensures)
+    let a : decimal_text c.unsigned_abs.result ≡ _ = ap decimal_text c.unsigned_abs.ensures.value in
+    let q = rw a at c.put_decimal.ensures in
+    elim c.if-n-lt0.branch [
+      | then-n-lt0 w ↦ both (text_below c.args.n c.ranges.n w.if-n-lt0.true) c.requires w.put_byte-digits.ensures _ _ (rw (w.out-is, w.digits-is) at q)
+      | else-n-lt0 w ↦ both (text_from c.args.n c.ranges.n w.if-n-lt0.false) c.requires (no_byte c.args.out.now c.args.at (omega arith)) _ _ (rw (w.out-is, w.digits-is) at q)
+    ]

@@ -1,46 +1,27 @@
 -- `page::arc_holds` meets its contract.
 -- Assumes nothing.
-use mathlib.Core.Path.{refl}
-use borrow.Author.Rules.{sfits_of}
-use borrow.Author.Tests.{not-true, not-false}
-use lib.IntN.{pos}
-use lib.ListN.{get_or}
-use Rattle.whole.proofs.Signed.{read_at, look_lt, look_ge, le_both}
-use Rattle.page.specs.Parts.{free, lost, more, less, exact}
-use Rattle.page.proofs.Tests.{next_near, next_is}
+use Rattle.std.proofs.Common.{◌≡◌, sym, ◌∙◌, rules, arith, ap, ◌+ℤ◌, FitsSigned, to_z, of_z, w64}
+use Rattle.std.proofs.lemmas.Int.{ints, to_z-of_z}
+use Rattle.whole.specs.Zed.{◌⊕◌}
+use Rattle.page.specs.Promise.{entry, Known}
+use Rattle.page.proofs.Tests.{met_exactly, not_exactly}
 use Rattle.page.proofs.arc_holds.Goals as goal
-
-pub returns-then-not-has_distance : goal.returns-then-not-has_distance
-returns-then-not-has_distance c = free refl (c.has_distance.ensures.fails (not-true _ c.if-not-has_distance.true-raw)) refl
-
-pub returns-then-not-has_distance-2 : goal.returns-then-not-has_distance-2
-returns-then-not-has_distance-2 c =
-    lost refl (c.has_distance.ensures.holds (not-false _ c.if-not-has_distance.false-raw)) (c.has_distance-2.ensures.fails (not-true _ c.if-not-has_distance-2.true-raw)) refl
-
-pub plus-next-requires : goal.plus-next-requires
-plus-next-requires c = next_near {d = get_or c.args.page.now c.args.u (pos 0)} {c = c.args.cost}
-    (sfits_of c.plus-arg-1.given) c.ranges.cost c.widen.ensures
-    (c.has_distance.ensures.holds (not-false _ c.if-not-has_distance.false-raw)) c.requires.ranged
-
-pub returns-then-lower : goal.returns-then-lower
-returns-then-lower c = let n = next_is {d = get_or c.args.page.now c.args.u (pos 0)} {c = c.args.cost} (sfits_of c.plus-arg-1.given) c.ranges.cost c.widen.ensures
-    c.plus-next.ensures (sfits_of c.plus-next.type_inv) in
-    let y = read_at c.args.page.now c.args.v c.lower-arg-1.given in
-    more refl (c.has_distance.ensures.holds (not-false _ c.if-not-has_distance.false-raw))
-    (look_lt n y c.lower.ensures c.if-lower.true) refl
-
-pub returns-then-lower-2 : goal.returns-then-lower-2
-returns-then-lower-2 c = let n = next_is {d = get_or c.args.page.now c.args.u (pos 0)} {c = c.args.cost} (sfits_of c.plus-arg-1.given) c.ranges.cost c.widen.ensures
-    c.plus-next.ensures (sfits_of c.plus-next.type_inv) in
-    let y = read_at c.args.page.now c.args.v c.lower-arg-2-1.given in
-    less refl (c.has_distance-2.ensures.holds (not-false _ c.if-not-has_distance-2.false-raw)) (look_lt y n c.lower-2.ensures c.if-lower-2.true) refl
+use Rattle.page.proofs.arc_holds.Goals.{then-page-v, else-page-v}
 
 pub returns : goal.returns
-returns c = let n = next_is {d = get_or c.args.page.now c.args.u (pos 0)} {c = c.args.cost} (sfits_of c.plus-arg-1.given) c.ranges.cost c.widen.ensures
-    c.plus-next.ensures (sfits_of c.plus-next.type_inv) in
-    let y = read_at c.args.page.now c.args.v c.lower-arg-2-1.given in
-    exact refl
-    (c.has_distance.ensures.holds (not-false _ c.if-not-has_distance.false-raw))
-    (c.has_distance-2.ensures.holds (not-false _ c.if-not-has_distance-2.false-raw))
-    (le_both (look_ge n y c.lower.ensures c.if-lower.false) (look_ge y n c.lower-2.ensures c.if-lower-2.false))
-    refl
+returns c =
+    let page = c.args.page.now in
+    let u = c.args.u in
+    let v = c.args.v in
+    let fu : FitsSigned w64 (entry page u) = search rules in
+    let fv : FitsSigned w64 (entry page v) = search rules in
+    let ku : Known page u = rw to_z-of_z at c.is_distance.ensures.holds c.if-not-is_distance.false in
+    let kv : Known page v = rw to_z-of_z at c.is_distance-2.ensures.holds c.if-not-is_distance-2.false in
+    let sum = to_z w64 (of_z w64 (entry page u)) +ℤ to_z w64 (of_z w64 c.from.result) in
+    let ft : FitsSigned w64 sum = search rules in
+    let p : to_z w64 (of_z w64 (entry page v)) ≡ entry page v = to_z-of_z w64 _ fv in
+    let q : to_z w64 (of_z w64 sum) ≡ entry page u ⊕ c.args.cost = omega (arith, ints) in
+    elim c.if-page-v.branch [
+      | then-page-v w ↦ rw w.met-is (met_exactly ku kv p q (ap (to_z w64) w.if-page-v.true))
+      | else-page-v w ↦ rw w.met-is (not_exactly ku kv p q (λ e. w.if-page-v.false (ap (of_z w64) (sym p ∙ (e ∙ to_z-of_z w64 sum ft)))))
+    ]

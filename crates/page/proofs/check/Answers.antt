@@ -1,21 +1,16 @@
 -- `page::check` meets its contract.
 -- Assumes nothing.
-use native.Mathlib.Omega.{arith}
+use Rattle.std.proofs.Common.{arith}
+use Rattle.numbers.proofs.Refused.{refused_ne0, handed_on}
 use Rattle.page.proofs.Refusals.{refused}
 use Rattle.page.proofs.Verdict.{ripe, answered}
 use Rattle.page.proofs.check.Goals as goal
 
-pub returns-then-refused-ne0 : goal.returns-then-refused-ne0
-returns-then-refused-ne0 c = refused _ _ _ _ c.refusal-refused.ensures c.if-refused-ne0.true
+pub returns-in_err-refusal : goal.returns-in_err-refusal
+returns-in_err-refusal c = rw (handed_on _ _ c.from_residual.ensures.1) (refused _ _ _ _ c.in_err-refusal.ensures (refused_ne0 _))
 
-pub judge-yes-requires : goal.judge-yes-requires
-judge-yes-requires c =
-    let z = c.args in
-    ripe z.map.bound z.map.count z.map.directed z.marks.now z.from.now z.to.now z.costs.now z.source z.page.now
-    c.refusal-refused.ensures c.if-refused-ne0.false 1024 (omega arith)
+pub judge-requires : goal.judge-requires
+judge-requires c = ripe c.args.net c.args.source c.args.page.now c.in_ok-refusal.ensures 1024 (omega arith)
 
 pub returns : goal.returns
-returns c =
-    let z = c.args in
-    answered z.map.bound z.map.count z.map.directed z.marks.now z.from.now z.to.now z.costs.now z.source z.page.now
-    c.refusal-refused.ensures c.if-refused-ne0.false c.judge-yes.ensures
+returns c = answered c.args.net c.args.source c.args.page.now c.in_ok-refusal.ensures c.judge.ensures

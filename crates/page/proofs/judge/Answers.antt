@@ -1,26 +1,22 @@
 -- `page::judge` meets its contract.
 -- Assumes nothing.
-use borrow.Author.Rules.{sfits_of}
-use borrow.Author.Tests.{not-true, not-false}
-use Rattle.page.proofs.Tests.{says_no, zero_is, zero_not}
-use Rattle.page.proofs.Verdict.{start, verdict}
+use Rattle.std.proofs.Common.{rules, arith, FitsSigned, w64, sym, eqb-true, ◌∙◌}
+use Rattle.page.specs.Promise.{entry}
+use Rattle.page.proofs.Tests.{bits_one}
+use Rattle.page.proofs.Verdict.{verdict}
 use Rattle.page.proofs.judge.Goals as goal
+use Rattle.page.proofs.judge.Goals.{then-page-source-eq0, else-page-source-eq0}
+use Rattle.page.proofs.judge.Goals.{then-all_in_range, else-all_in_range}
 
-pub returns-then-page-source-ne0 : goal.returns-then-page-source-ne0
-returns-then-page-source-ne0 c = says_no (λ w. zero_not c.if-page-source-ne0.true w.starts)
-
-pub returns-then-not-all_in_range : goal.returns-then-not-all_in_range
-returns-then-not-all_in_range c = says_no (λ w. c.all_in_range.ensures.fails (not-true _ c.if-not-all_in_range.true-raw) w.ranged)
-
-pub arcs_hold-requires : goal.arcs_hold-requires
-arcs_hold-requires c = start c.requires (c.all_in_range.ensures.holds (not-false _ c.if-not-all_in_range.false-raw))
-
-pub returns-then-not-arcs_hold : goal.returns-then-not-arcs_hold
-returns-then-not-arcs_hold c = says_no (λ w. c.arcs_hold.ensures.fails (not-true _ c.if-not-arcs_hold.true-raw) w.holds)
-
-pub returns : goal.returns
-returns c = verdict
-    (zero_is (sfits_of c.t11-1.given) c.if-page-source-ne0.false)
-    (c.all_in_range.ensures.holds (not-false _ c.if-not-all_in_range.false-raw))
-    (c.arcs_hold.ensures.holds (not-false _ c.if-not-arcs_hold.false-raw))
-    c.all_met.ensures
+pub returns-then-arcs_hold : goal.returns-then-arcs_hold
+returns-then-arcs_hold c =
+    let f : FitsSigned w64 (entry c.args.page.now c.args.source) = search rules in
+    elim c.if-all_in_range.branch [
+      | then-all_in_range x ↦
+          elim c.if-page-source-eq0.branch [
+            | then-page-source-eq0 w ↦
+                verdict (bits_one f (record { sfits = omega arith }) w.if-page-source-eq0.true) (w.all_in_range.ensures.holds (cc)) (rw x.met-is (x.arcs_hold.ensures.holds (cc))) c.all_met.ensures
+            | else-page-source-eq0 w ↦ absurd (w.if-page-source-eq0.false (eqb-true _ 0 (sym w.value-is ∙ x.if-all_in_range.true)))
+          ]
+      | else-all_in_range x ↦ absurd (cc)
+    ]

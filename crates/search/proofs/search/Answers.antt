@@ -25,43 +25,53 @@ overflow_add-takes g c =
 
 pub returns-then-eq-clause-searched : goal.returns-then-eq-clause-searched
 returns-then-eq-clause-searched g c =
+    let e = c.take_least-u.ensures in
+    let long = c.take_least-u.auto.words in
     let way = (g.met.R.Rule.right c.args.rule).course (target_in c.args.m c.args.target) c.requires.fit in
-    let below = (popped way c.loop-size.invariant.0 (c.take_least-u.ensures.least, (c.take_least-u.ensures.bag_2, c.take_least-u.ensures.keys_after)) c.take_least-u.auto.words).below in
+    let below = (popped way c.loop-size.invariant.0 (e.least, (e.bag_2, e.keys_after)) long).below in
     let test = target_is c.args.m c.args.target _ below ∙ sym c.if-eq.ensures in
-    rw c.take_least-u.ensures.kept (finds way c.loop-size.invariant.0 (c.take_least-u.ensures.least, (c.take_least-u.ensures.bag_2, c.take_least-u.ensures.keys_after)) c.take_least-u.auto.words test refl refl)
+    rw e.kept (finds way c.loop-size.invariant.0 (e.least, (e.bag_2, e.keys_after)) long test refl refl)
 
 pub look_row-requires : goal.look_row-requires
 look_row-requires g c =
+    let e = c.take_least-u.ensures in
+    let long = c.take_least-u.auto.words in
     let R = g.met.R.Rule.right c.args.rule in
     let way = R.course (target_in c.args.m c.args.target) c.requires.fit in
-    let taken = popped way c.loop-size.invariant.0 (c.take_least-u.ensures.least, (c.take_least-u.ensures.bag_2, c.take_least-u.ensures.keys_after)) c.take_least-u.auto.words in
-    rw c.take_least-u.ensures.kept (record {
-      opens = opens way c.loop-size.invariant.0 (c.take_least-u.ensures.least, (c.take_least-u.ensures.bag_2, c.take_least-u.ensures.keys_after)) c.take_least-u.auto.words;
+    let taken = popped way c.loop-size.invariant.0 (e.least, (e.bag_2, e.keys_after)) long in
+    rw e.kept (record {
+      opens = opens way c.loop-size.invariant.0 (e.least, (e.bag_2, e.keys_after)) long;
       row_in_range = R.row c.requires.fit c.loop-size.invariant.0 taken;
     })
 
 pub returns-in-None-clause-searched : goal.returns-in-None-clause-searched
 returns-in-None-clause-searched g c =
+    let e = c.take_least-u.ensures in
+    let long = c.take_least-u.auto.words in
     let way = (g.met.R.Rule.right c.args.rule).course (target_in c.args.m c.args.target) c.requires.fit in
-    let below = (popped way c.loop-size.invariant.0 (c.take_least-u.ensures.least, (c.take_least-u.ensures.bag_2, c.take_least-u.ensures.keys_after)) c.take_least-u.auto.words).below in
+    let below = (popped way c.loop-size.invariant.0 (e.least, (e.bag_2, e.keys_after)) long).below in
     let test = target_is c.args.m c.args.target _ below ∙ sym c.if-eq.ensures in
-    stops way c.loop-size.invariant.0 (c.take_least-u.ensures.least, (c.take_least-u.ensures.bag_2, c.take_least-u.ensures.keys_after)) c.take_least-u.auto.words test c.in-None.ensures.row refl refl
+    stops way c.loop-size.invariant.0 (e.least, (e.bag_2, e.keys_after)) long test c.in-None.ensures.row refl refl
 
 pub loop-size-smaller : goal.loop-size-smaller
 loop-size-smaller g c =
+    let e = c.take_least-u.ensures in
+    let long = c.take_least-u.auto.words in
     let way = (g.met.R.Rule.right c.args.rule).course (target_in c.args.m c.args.target) c.requires.fit in
-    let below = (popped way c.loop-size.invariant.0 (c.take_least-u.ensures.least, (c.take_least-u.ensures.bag_2, c.take_least-u.ensures.keys_after)) c.take_least-u.auto.words).below in
+    let below = (popped way c.loop-size.invariant.0 (e.least, (e.bag_2, e.keys_after)) long).below in
     let test = target_is c.args.m c.args.target _ below ∙ sym c.if-eq.ensures in
-    falls way c.loop-size.invariant.0 (c.take_least-u.ensures.least, (c.take_least-u.ensures.bag_2, c.take_least-u.ensures.keys_after)) c.take_least-u.auto.words test (rw c.take_least-u.ensures.kept at c.in-Some.ensures.row)
+    falls way c.loop-size.invariant.0 (e.least, (e.bag_2, e.keys_after)) long test (rw e.kept at c.in-Some.ensures.row)
 
 pub loop-size-preserved : goal.loop-size-preserved
 loop-size-preserved g c =
+    let e = c.take_least-u.ensures in
+    let long = c.take_least-u.auto.words in
     let way = (g.met.R.Rule.right c.args.rule).course (target_in c.args.m c.args.target) c.requires.fit in
-    let below = (popped way c.loop-size.invariant.0 (c.take_least-u.ensures.least, (c.take_least-u.ensures.bag_2, c.take_least-u.ensures.keys_after)) c.take_least-u.auto.words).below in
+    let below = (popped way c.loop-size.invariant.0 (e.least, (e.bag_2, e.keys_after)) long).below in
     let test = target_is c.args.m c.args.target _ below ∙ sym c.if-eq.ensures in
     let a = c.loop-size.invariant.1 in
     let b = c.look_row.ensures.same in
-    (next way c.loop-size.invariant.0 (c.take_least-u.ensures.least, (c.take_least-u.ensures.bag_2, c.take_least-u.ensures.keys_after)) c.take_least-u.auto.words test (rw c.take_least-u.ensures.kept at c.in-Some.ensures.row), (b.0 ∙ a.0, b.1 ∙ a.1, b.2 ∙ a.2, b.3 ∙ a.3, b.4 ∙ a.4))
+    (next way c.loop-size.invariant.0 (e.least, (e.bag_2, e.keys_after)) long test (rw e.kept at c.in-Some.ensures.row), (b.0 ∙ a.0, b.1 ∙ a.1, b.2 ∙ a.2, b.3 ∙ a.3, b.4 ∙ a.4))
 
 pub returns-clause-searched : goal.returns-clause-searched
 returns-clause-searched g c =

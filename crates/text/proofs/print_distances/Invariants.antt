@@ -1,6 +1,5 @@
 -- `text::print_distances` meets its contract: the invariant is `Listing` of Lines.
 -- Assumes nothing.
-use Prim.Native.Nat.{◌-◌}
 use Rattle.table.specs.Links.{present}
 use Rattle.text.specs.Text.{each_index, distance_line}
 use Rattle.text.proofs.Lines.{Listing}
@@ -8,6 +7,3 @@ use Rattle.text.proofs.print_distances.Given as goal
 
 abbrev pub invariant-loop-i : goal.invariant-loop-i
 invariant-loop-i l = Listing (each_index (present l.bound l.marks) (distance_line l.dist)) 43 l.initial.out l.at l.bound l.out l.next l.i
-
-abbrev pub decreases-loop-i : goal.decreases-loop-i
-decreases-loop-i l = l.bound - l.i

@@ -6,7 +6,7 @@ use Rattle.net.proofs.Lent.inside.Goals as goal
 
 pub all_inside-requires : goal.all_inside-requires
 all_inside-requires g c =
-    let v = c.args.self in
+    let v = c.args.self.now in
     let net = net_in g.C.Costs.listed g.C.Costs.room v in
     let fits = g.met.C.Costs.fits v.from.now v.to.now v.costs in
     let k = long_of net v.from.now v.to.now (g.C.Costs.listed v.costs) fits refl c.requires in
@@ -14,7 +14,7 @@ all_inside-requires g c =
 
 pub returns : goal.returns
 returns g c =
-    let v = c.args.self in
+    let v = c.args.self.now in
     let net = net_in g.C.Costs.listed g.C.Costs.room v in
     let fits = g.met.C.Costs.fits v.from.now v.to.now v.costs in
     let k = long_of net v.from.now v.to.now (g.C.Costs.listed v.costs) fits refl c.requires in
