@@ -11,15 +11,15 @@ use Rattle.rows.specs.Kept.{EnoughLists}
 use Rattle.rows.specs.Scratch.{has_lists}
 use Rattle.rows.proofs.Kept.{has_lists_lem}
 use Rattle.turns.specs.Firsts.{EnoughMemory}
+use Rattle.search.specs.Check.{check_no}
 use Rattle.search.proofs.Lists.{has_memory_lem}
 use Rattle.dijkstra.specs.Promise.{Buffers, memory, long_enough, enough, table, Promise}
-use Rattle.dijkstra.specs.Parts.{refusal_no}
 
 -- ---- the number of the refusal
 module _ (g : Net ℤ) (s : ℕ) (b : Buffers) where
   -- a refusal is what the promise says
-  pub refused : (r : ℕ) → r ≡ refusal_no g s b → (r ≡ 0 → ⊥) → Promise g s b b r
-  unfolding refusal_no
+  pub refused : (r : ℕ) → r ≡ check_no g s b.scratch.rows (memory b) → (r ≡ 0 → ⊥) → Promise g s b b r
+  unfolding check_no long_enough
   refused r q f = record { follows = numbers.refused 3 (table g s b) b (refl, (refl, (refl, tt))) r q f }
 
 -- ---- what a call that is not refused may rest on
@@ -40,6 +40,6 @@ enough_passed g s b e i h =
     record { long = e; inside = i; source = h; whole = and_left (whole_net g) _ e; rows = has_lists_lem _ _ _ (and_left t _ l); memory = has_memory_lem _ _ (and_right t _ l) }
 
 -- from the number 0
-pub passed : (g : Net ℤ) (s : ℕ) (b : Buffers) → refusal_no g s b ≡ 0 → Passed g s b
-unfolding refusal_no
+pub passed : (g : Net ℤ) (s : ℕ) (b : Buffers) → check_no g s b.scratch.rows (memory b) ≡ 0 → Passed g s b
+unfolding check_no long_enough
 passed g s b q = let p = numbers.passed 3 (table g s b) (refl, (refl, (refl, tt))) q in enough_passed g s b p.0 p.1.0 p.1.1.0

@@ -8,35 +8,11 @@ ghost use Rattle.net.specs.Net.{float_net};
 ghost use Rattle.rows.specs.Rows.{SameLists};
 ghost use Rattle.search.specs.Lists.{SameMemory};
 ghost use Rattle.dijkstra_path.specs.Promise.{Promise, buffers_in};
-ghost use Rattle.dijkstra_path.specs.Parts.{refusal_no};
 
 use net::{Floats, Lent};
 use numbers::Refusal;
 use rows::Lists;
 use search::{Limited, Memory};
-
-// Limit where a limit is passed or a lent list is too short, Index where a link names an index that the map has not, Source where the
-// source is one. A twin of dijkstra's: one over both kinds of costs gets no proof (tried), since it would use a struct of a parameter twice.
-#[tactic(auto, unfolding(crate::specs::Parts::refusal_no, crate::specs::Promise::long_enough))]
-fn refusal(
-    net: Lent<Floats>,
-    source: usize,
-    lists: &Lists<u64>,
-    memory: &Memory<u64>,
-) -> Result<(), Refusal>
-    ensures { number_of result ≡ refusal_no (float_net net.entry) source (buffers_in lists.now memory.now) }
-{
-    let m = net.map.bound;
-    if !net.whole() || !lists.long_enough(m, net.most_arcs()) || !memory.long_enough(m) {
-        Err(Refusal::Limit)
-    } else if !net.inside() {
-        Err(Refusal::Index)
-    } else if !net.has(source) {
-        Err(Refusal::Source)
-    } else {
-        Ok(())
-    }
-}
 
 // Distances and predecessors from a source over the open arcs, up to a cutoff, in the memory. The promise is in specs/Promise.antt.
 pub fn dijkstra_path_impl(
@@ -51,7 +27,7 @@ pub fn dijkstra_path_impl(
     ensures same_lists { SameLists lists.old lists.new }
     ensures same_memory { SameMemory memory.old memory.new }
 {
-    refusal(net, source, lists, memory)?;
+    search::check(&net, source, lists, memory)?;
     let m = net.map.bound;
     let a = net.most_arcs();
     rows::position_csr(net, lists);
@@ -62,8 +38,8 @@ pub fn dijkstra_path_impl(
     match found {
         Ok(_) => Ok(()),
         Err(bad) => {
-            clean::fill(memory.dist, m, clean::NONE_F64);
             clean::fill(memory.preds, m, clean::NONE_U32);
+            clean::fill(memory.dist, m, clean::NONE_F64);
             Err(bad.into())
         }
     }
