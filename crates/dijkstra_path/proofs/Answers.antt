@@ -120,7 +120,8 @@ module _ {g : Net FloatCost} {s : ℕ} {b : Buffers} (ok : Passed g s b) where
               }
 
           -- a bad cost
-          pub answer_bad : {k : Cutoff} → limit ≡ limit_of k → number ≡ 6 → {x p : List ℕ} → x ≡ filled m none_f64 M'.dist → p ≡ filled m none_u32 M'.preds → {n : ℕ} → n ≡ 6 → Promise g s k b (after x p) n
+          pub answer_bad : {k : Cutoff} → limit ≡ limit_of k → number ≡ 6 → {x p : List ℕ} → x ≡ filled m none_f64 M'.dist → p ≡ filled m none_u32 M'.preds
+              → {n : ℕ} → n ≡ 6 → Promise g s k b (after x p) n
           answer_bad cut e {x} {p} ex ep q =
               let dist = ex ∙ ap (filled m none_f64) dist_kept ∙ kept_same none_f64 v.kept.dist in
               let preds = ep ∙ ap (filled m none_u32) preds_kept ∙ kept_same none_u32 v.kept.preds in
