@@ -40,7 +40,7 @@ def called(function, parameter):
     return f'{name}: {kind.replace("[u64]", "[f64]")}' if (function, name) in DOUBLES else parameter
 
 
-proved = {name: (listed(ps), r) for name, ps, r in re.findall(r'#\[unsafe\(no_mangle\)\]\s*pub extern "C" fn (\w+)\(([^)]*)\) -> (\w+)', text('crates/dimetumble_c/src/lib.rt'))}
+proved = {name: (listed(ps), r) for name, ps, r in re.findall(r'#\[unsafe\(no_mangle\)\]\s*pub extern "C" fn (\w+)(?:<.a>)?\(([^)]*)\) -> (\w+)', text('crates/dimetumble_c/src/lib.rt').replace("&'a ", '&'))}
 header = {name: (listed(ps), r) for r, name, ps in re.findall(r'(\w+) (dimetumble_\w+)\(([^)]*)\);', re.sub(r'/\*.*?\*/', '', text('include/dimetumble.h'), flags=re.S))}
 rust = {name: listed(ps) for name, ps in re.findall(r'native!\(\w+ = (\w+)\(([^)]*)\)\);', text('bindings/rust/src/native.rs'))}
 

@@ -191,6 +191,17 @@ impl<'a, W: Copy> Rows<'a, W> {
     }
 }
 
+pub struct Pile<'a, C> {
+    pub costs: C,
+    pub heights: &'a mut [C::Weight],
+}
+
+impl<'a, C: Costs> Pile<'a, C> {
+    pub fn rise(self)
+    {
+    }
+}
+
 pub fn look<C: Costs, K>(net: net::Lent<C>, held: &Held<C::Weight, K>, rows: &mut Rows<'_, K>, key: K) -> Result<Place, Refusal>
 {
     Err(Refusal::Full)
@@ -347,6 +358,20 @@ wrong: result = false
     put_bool(host, result)?;
     print!(host; "\\n")?;
 """, "result = true\n", "result = false\n"),
+    ("Pile::rise", """input: bits = [2]
+input: opens = [1]
+right: heights = none ..
+wrong: heights = 3 ..
+""", """    let bits: [u64; 1] = [2];
+    let opens: [u8; 1] = [1];
+    let the_costs = net::Floats { bits: &bits, opens: &opens };
+    let mut heights: [u64; 40] = [7; 40];
+    let the_self = small::Pile { costs: the_costs, heights: &mut heights };
+    small::Pile::rise(the_self);
+""", """    print!(host; "heights =")?;
+    put_u64s(host, &heights, 1)?;
+    print!(host; "\\n")?;
+""", "heights = 13830554455654793216\n", "heights = 3\n"),
     ("fill", """input: list = [3u8, 4]
 input: x = 5
 right: result = ok some 3

@@ -45,20 +45,19 @@ module _ (ps : List ℕ) (s : ℕ) where
       go true h = omega arith
       go false h = omega (arith, length-append (trail ps s k (get_or ps v 0)) (v ∷ []))
 
-  -- what going back asks
-  pub back_in : (k v : ℕ) → GoesBack ps s k v → v < length ps
-  back_in zero v g = g.0
-  back_in (suc k) v g = g.0
+  -- one index, at least
+  pub trail_some : (k v : ℕ) → 0 < length (trail ps s k v)
+  trail_some zero v = omega arith
+  trail_some (suc k) v = go (eqb v s)
+    where
+      go : (b : Bool) → 0 < length {A = ℕ} (elim b [ true ↦ v ∷ [] | false ↦ trail ps s k (get_or ps v 0) ++ (v ∷ []) ])
+      go true = omega arith
+      go false = omega (arith, length-append (trail ps s k (get_or ps v 0)) (v ∷ []))
 
   -- an index that is not the source has an arc back
   pub back_some : (k v : ℕ) → GoesBack ps s k v → (v ≡ s → ⊥) → 0 < k
   back_some zero v g n = absurd (n g.1)
   back_some (suc k) v g n = omega arith
-
-  -- and going back goes on from there
-  pub back_next : (k v : ℕ) → GoesBack ps s k v → (v ≡ s → ⊥) → GoesBack ps s (k - 1) (get_or ps v 0)
-  back_next zero v g n = absurd (n g.1)
-  back_next (suc k) v g n = subst (λ (j : ℕ). GoesBack ps s j (get_or ps v 0)) (one_less k) (g.1 n)
 
 -- ---- writing
 -- the first index
@@ -74,10 +73,6 @@ front_more [] v [] h = absurd (omega arith)
 front_more [] v (y ∷ p) h = refl
 front_more (x ∷ l) v [] h = absurd (omega arith)
 front_more (x ∷ l) v (y ∷ p) h = ap (λ (r : List ℕ). x ∷ r) (front_more l v p (omega arith))
-
--- one less than what is used is within it
-pub left_fits : {m t : ℕ} (l k : List ℕ) → m ≤ length l → t < m → length k ≡ length l → m - 1 < length k
-left_fits l k h i e = omega (arith, h, i, e)
 
 -- an answer by its parts
 pub answer_is : {d e : ℤ} {n k : ℕ} → d ≡ e → n ≡ k → answer_of 0 d n ≡ answer_of 0 e k

@@ -14,6 +14,9 @@ use Rattle.whole.proofs.Cases.{clash, other}
 use Rattle.numbers.specs.Numbers.{here, past, Follows, At, Given}
 use Rattle.numbers.specs.Over.{Over}
 use Rattle.numbers.proofs.Numbers.{◌then◌, is_one, follows_one, exactly, given, follows_over, behind, follows_behind}
+use Rattle.std.specs.Prelude.{Result as Back, Ok, Err, Option as Found, Some, None}
+use Rattle.numbers.specs.declared.Refusal.{Refusal}
+use Rattle.numbers.proofs.Refused.{refused_ne0, refusal_one}
 use Rattle.clean.specs.Fill.{filled}
 use Rattle.clean.specs.None.{none_i64, none_u32}
 use Rattle.pending.specs.Setting.{End}
@@ -22,7 +25,8 @@ use Rattle.pending.proofs.One.{ends_map, number_is}
 use Rattle.net.specs.Net.{Net, ArcOf, has, SameNet}
 use Rattle.net.proofs.Same.{same_inside, same_size}
 use Rattle.rows.specs.Rows.{rows_of}
-use Rattle.a_star.specs.Promise.{Question, Answer, answer_of, Buffers, long_enough, enough, is_fair, fair_at, fair_below, fair_guess}
+use Rattle.a_star.specs.declared.Route.{Route}
+use Rattle.a_star.specs.Promise.{Question, Answer, answer_of, answer_in, HasIndex, Buffers, long_enough, enough, is_fair, fair_at, fair_below, fair_guess}
 use Rattle.a_star.specs.Promise.{Fine, at_front, wiped_all, search_of, EndsIn, Says, unreached, reached, Result, result_of, no_path, with_path, Outcome, table, Promise}
 use Rattle.a_star.proofs.Path.{passed_one, chain_over, passed_over}
 use Rattle.a_star.proofs.Refusals.{fair_absent, fair_present, fair_stop}
@@ -110,6 +114,18 @@ module _ {g : Net ℤ} {q : Question} {b e : Buffers} where
       go (past l (past i (past s (past t (here h x))))) = test 5 (omega arith) (omega arith) x
       go (past l (past i (past s (past t (past h f))))) = inr (record { enough = l; inside = i; source = s; target = t; fair = h }, run_of g q b e r f)
 
+-- what the code gives, by its answer
+told_one : (r s : Back (Found Route) Refusal) → HasIndex r → HasIndex s → answer_in r ≡ answer_in s → r ≡ s
+told_one (Ok (Some x)) (Ok (Some y)) h k e = λ i. Ok (Some (record { cost = (e i).cost; length = (e i).length }))
+told_one (Ok (Some x)) (Ok None) h k e = absurd (omega (arith, h, ap (λ (y : Answer). y.length) e))
+told_one (Ok None) (Ok (Some y)) h k e = absurd (omega (arith, k, ap (λ (y : Answer). y.length) e))
+told_one (Ok None) (Ok None) h k e = refl
+told_one (Ok (Some x)) (Err y) h k e = absurd (refused_ne0 y (sym (ap (λ (y : Answer). y.number) e)))
+told_one (Ok None) (Err y) h k e = absurd (refused_ne0 y (sym (ap (λ (y : Answer). y.number) e)))
+told_one (Err x) (Ok (Some y)) h k e = absurd (refused_ne0 x (ap (λ (y : Answer). y.number) e))
+told_one (Err x) (Ok None) h k e = absurd (refused_ne0 x (ap (λ (y : Answer). y.number) e))
+told_one (Err x) (Err y) h k e = ap (λ z. Err z) (refusal_one x y (ap (λ (y : Answer). y.number) e))
+
 module _ {g : Net ℤ} {q : Question} {b : Buffers} where
   -- ---- two answers that the promise allows are equal: after 0 one outcome, else the row names what is left
   pub promise_one : {e f : Buffers} {r s : Answer} → Promise g q b e r → Promise g q b f s → (r ≡ s) × (e ≡ f)
@@ -117,6 +133,10 @@ module _ {g : Net ℤ} {q : Question} {b : Buffers} where
       let k = follows_one (table g q b) (result_of r e) (result_of s f) r.number s.number
       (is_one then is_one then is_one then is_one then is_one then is_one then (λ x y o u. outcome_one o u) then tt) p.follows p'.follows in
       (λ i. answer_of (k.0 i) (k.1 i).cost (k.1 i).length, λ i. (k.1 i).buffers)
+
+  -- so is what the code gives: the answer tells it, for a path has an index
+  pub route_one : {e f : Buffers} {r s : Back (Found Route) Refusal} → Promise g q b e (answer_in r) → Promise g q b f (answer_in s) → HasIndex r → HasIndex s → (r ≡ s) × (e ≡ f)
+  route_one {e} {f} {r} {s} p p' h k = let w = promise_one p p' in (told_one r s h k w.0, w.1)
 
   module _ {e : Buffers} {r : Answer} (p : Promise g q b e r) where
     -- ---- each number exactly when its row is reached, and what is then left

@@ -1,6 +1,6 @@
 -- What `a_star` promises.
 -- Assumes nothing.
-use Rattle.std.specs.Prelude.{◌≡◌, Bool, true, not, ◌&&◌, ◌||◌, List, [], ◌∷◌, ◌++◌, reverse, ℕ, zero, suc, ◌-◌, ◌^◌, leb, ℤ, pos}
+use Rattle.std.specs.Prelude.{◌≡◌, Bool, true, not, ◌&&◌, ◌||◌, List, [], ◌∷◌, ◌++◌, reverse, ℕ, zero, suc, ◌-◌, ◌<◌, ◌^◌, leb, ℤ, pos}
 use Rattle.std.specs.Prelude.{negsuc, length, get_or, drop}
 use Rattle.std.proofs.Math.Option.{none, some}
 use Rattle.std.specs.Int.Signed.{le_z}
@@ -48,6 +48,12 @@ abbrev pub answer_in : Given (Option Route) Refusal → Answer
 answer_in (Ok (Some r)) = answer_of 0 r.cost r.length
 answer_in (Ok None) = answer_of 0 none_i64 0
 answer_in (Err e) = answer_of (no_of e) none_i64 0
+
+-- a path that is given has an index
+abbrev pub HasIndex : Given (Option Route) Refusal → Type 0
+HasIndex (Ok (Some r)) = 0 < r.length
+HasIndex (Ok None) = Unit {0}
+HasIndex (Err e) = Unit {0}
 
 -- the lent scratch: the neighbour list and the lists that the search writes
 pub record Scratch : Type 0 where

@@ -8,7 +8,7 @@ ghost use Rattle.net.specs.Net.{int_net, ArcOf, whole_net, most_arcs_of};
 ghost use Rattle.rows.specs.Rows.{SameLists};
 ghost use Rattle.search.specs.Found.{number_of as found_no};
 ghost use Rattle.search.specs.Lists.{SameMemory};
-ghost use Rattle.a_star.specs.Promise.{Promise, question_of, answer_in, buffers_in, scratch_in};
+ghost use Rattle.a_star.specs.Promise.{Promise, question_of, answer_in, HasIndex, buffers_in, scratch_in};
 ghost use Rattle.a_star.specs.Promise.{long_enough, is_fair, fair_below, at_front, wiped_all};
 ghost use Rattle.a_star.specs.Trail.{trail, GoesBack};
 ghost use Rattle.a_star.specs.Parts.{question_no, refusal_no, EnoughScratch, CanSeek, Ripe, Sought, Told, Read, Solved};
@@ -144,11 +144,12 @@ fn write_path(preds: &[u32], source: usize, v: usize, left: usize, path: &mut [u
 {
     if v == source {
         path[0] = v as u32;
-        return 1;
+        1
+    } else {
+        let n = write_path(preds, source, preds[v] as usize, left - 1, path);
+        path[n] = v as u32;
+        n + 1
     }
-    let n = write_path(preds, source, preds[v] as usize, left - 1, path);
-    path[n] = v as u32;
-    n + 1
 }
 
 // The answer after a search: none in the path's slice, and the path if the target has a distance.
@@ -161,7 +162,8 @@ fn answer(
     path: &mut [u32],
 ) -> Result<Option<Route>, Refusal>
     requires { Told (found_no found) m source target memory.now.dist.now memory.now.preds.now path.old }
-    ensures { Read (found_no found) m source target memory.now.dist.now memory.now.preds.now path.old path.new (answer_in result) }
+    ensures read { Read (found_no found) m source target memory.now.dist.now memory.now.preds.now path.old path.new (answer_in result) }
+    ensures route { HasIndex result }
 {
     clean::fill(path, m, clean::NONE_U32);
     found?;
@@ -197,6 +199,7 @@ fn solve(
 ) -> Result<Option<Route>, Refusal>
     requires { Ripe net.map.bound net.map.count net.map.directed net.from.now net.to.now net.costs.costs.now
         (question_of source target guess.now) (buffers_in path.old lists.old memory.old) }
+    ensures route { HasIndex result }
     ensures solved { Solved net.entry.map.bound net.entry.map.count net.entry.map.directed net.entry.from.now net.entry.to.now
         net.entry.costs.costs.now (question_of source target guess.now)
         (buffers_in path.old lists.old memory.old) (buffers_in path.new lists.new memory.new) (answer_in result) }
@@ -220,6 +223,7 @@ pub fn a_star(
     lists: &mut Lists<i64>,
     memory: &mut Memory<i64>,
 ) -> Result<Option<Route>, Refusal>
+    ensures route { HasIndex result }
     ensures promise { Promise (int_net net.entry) (question_of source target guess.now)
         (buffers_in path.old lists.old memory.old) (buffers_in path.new lists.new memory.new) (answer_in result) }
     ensures same_lists { SameLists lists.old lists.new }

@@ -1,3 +1,3 @@
-pub mod Widths
+pub mod Rooms
 pub mod Says
 pub mod Settles

@@ -4,31 +4,22 @@
 use mathlib.Core.Path.{◌≡◌, ap}
 use mathlib.Core.List.{List}
 use mathlib.Core.Logic.{⊎_elim}
-use Prim.Native.Nat.{ℕ, ◌+◌, ◌≤◌}
+use Prim.Native.Nat.{ℕ, ◌≤◌}
 use native.Mathlib.Omega.{arith}
-use borrow.Author.Tests.{eq-eqb, ne_eqb}
 use lib.IntN.{ℤ}
 use lib.ListN.{length, length-append, drop}
 use Rattle.clean.specs.Fill.{filled}
 use Rattle.clean.specs.None.{none_u32}
 use Rattle.net.specs.Net.{Net}
-use Rattle.lines.specs.Text.{Printed, decimal_text, newline_text}
-use Rattle.lines.proofs.Digits.{decimal_text_length}
-use Rattle.text.specs.Text.{refused_line, answer_text}
+use Rattle.lines.specs.Text.{Printed}
+use Rattle.text.specs.Text.{answer_text}
 use Rattle.a_star.specs.Promise as star
 use Rattle.a_star.proofs.Settles.{cases}
-use Rattle.answers.specs.Output.{most}
 
-module _ (t : List ℕ) {out after : List ℕ} {at r number : ℕ} where
-  -- a refusal
-  pub refused : (number ≡ 0 → ⊥) → Printed out at (refused_line number) after r → Printed out at (answer_text number t) after r × (r ≤ at + most)
-  unfolding answer_text
-  refused f p = (rw (ne_eqb number 0 f) p, omega (arith, p.ends, length-append (decimal_text number) newline_text, decimal_text_length number))
-
-  -- the lines of an answer
-  pub given : number ≡ 0 → length t ≤ most → Printed out at t after r → Printed out at (answer_text number t) after r × (r ≤ at + most)
-  unfolding answer_text
-  given e h p = (rw (eq-eqb number 0 e) p, omega (arith, p.ends))
+-- what was printed of slices was printed of equal ones
+module _ {A B : Type 0} {x : A} {y : B} {out after : List ℕ} {at r : ℕ} (number : ℕ) (lines : A → B → List ℕ) where
+  pub of_equal : (x' : A) (y' : B) → Printed out at (answer_text number (lines x y)) after r → x ≡ x' → y ≡ y' → Printed out at (answer_text number (lines x' y')) after r
+  of_equal x' y' p e f = rw (← e, ← f) p
 
 -- a path is no longer than the buffer that it stands in
 path_within : (l p : List ℕ) → length l ≤ length (star.at_front l p)

@@ -26,7 +26,9 @@ EnoughRing m r = (m ≤ length r.queue.now) × (m ≤ length r.queued.now) × (m
 
 -- the same slices are lent
 abbrev pub SameRing : Ring → Ring → Type 0
-SameRing r t = (t.queue.ghost_name ≡ r.queue.ghost_name) × (t.queued.ghost_name ≡ r.queued.ghost_name) × (t.lengths.ghost_name ≡ r.lengths.ghost_name)
+SameRing r t =
+    (t.queue.ghost_name ≡ r.queue.ghost_name) × (t.queued.ghost_name ≡ r.queued.ghost_name)
+    × (t.lengths.ghost_name ≡ r.lengths.ghost_name)
 
 -- the lists that the search writes
 abbrev pub memory : Buffers → Memory

@@ -2,7 +2,9 @@
 // its name, the number, and per index the bits of the distance and the predecessor.
 #![tactic(auto)]
 
-use float::Cutoff;
+use net::{Floats, Lent};
+use rows::Lists;
+use search::Memory;
 use std::io;
 use table::Map;
 
@@ -53,12 +55,10 @@ fn put_line(
     preds: &[u32; 3],
 ) -> io::Result<()> {
     print!(rt; "{name} {number}")?;
-    put_distance(rt, dist[0])?;
-    put_predecessor(rt, preds[0])?;
-    put_distance(rt, dist[1])?;
-    put_predecessor(rt, preds[1])?;
-    put_distance(rt, dist[2])?;
-    put_predecessor(rt, preds[2])?;
+    for (d, u) in dist.iter().zip(preds) {
+        put_distance(rt, *d)?;
+        put_predecessor(rt, *u)?;
+    }
     println!(rt;)
 }
 
@@ -66,111 +66,106 @@ fn put_line(
 fn search(
     rt: &impl Print,
     name: &str,
-    bits: &[u64; 3],
-    opens: &[u8; 3],
-    cutoff: Cutoff,
+    bits: [u64; 3],
+    opens: [u8; 3],
+    cutoff: Option<f64>,
 ) -> io::Result<()> {
-    let map = Map {
-        bound: 3,
-        count: 3,
-        directed: true,
+    let net = Lent {
+        map: Map {
+            bound: 3,
+            count: 3,
+            directed: true,
+        },
+        marks: &[1; 3],
+        from: &[0, 1, 0],
+        to: &[1, 2, 2],
+        costs: Floats {
+            bits: &bits,
+            opens: &opens,
+        },
     };
-    let marks = [1u8; 3];
-    let from = [0u16, 1, 0];
-    let to = [1u16, 2, 2];
-    let mut dist = [0u64; 3];
-    let mut preds = [0u32; 3];
-    let mut offsets = [0usize; 4];
-    let mut heads = [0u16; 3];
-    let mut weights = [0u64; 3];
-    let mut peaks = [0usize; 3];
-    let mut words = [0usize; 3];
-    let mut keys = [0u64; 3];
-    let number = dijkstra_path::dijkstra_path_f64(
-        map,
-        &marks,
-        &from,
-        &to,
-        bits,
-        opens,
-        0,
-        cutoff,
-        &mut dist,
-        &mut preds,
-        &mut offsets,
-        &mut heads,
-        &mut weights,
-        &mut peaks,
-        &mut words,
-        &mut keys,
-    );
-    put_line(rt, name, number, &dist, &preds)
+    let mut lists = Lists {
+        offsets: &mut [0; 4],
+        heads: &mut [0; 3],
+        weights: &mut [0; 3],
+    };
+    let mut dist = [0; 3];
+    let mut preds = [0; 3];
+    let mut memory = Memory {
+        dist: &mut dist,
+        preds: &mut preds,
+        peaks: &mut [0; 3],
+        words: &mut [0; 3],
+        keys: &mut [0; 3],
+    };
+    let done = dijkstra_path::dijkstra_path_f64(net, 0, cutoff, &mut lists, &mut memory);
+    put_line(rt, name, numbers::number(done), &dist, &preds)
 }
 
 // The arcs 0 to 1 and 1 to 2.
-fn chain(rt: &impl Print, name: &str, first: u64, second: u64, cutoff: Cutoff) -> io::Result<()> {
-    search(rt, name, &[first, second, ZERO], &[1, 1, 0], cutoff)
+fn chain(
+    rt: &impl Print,
+    name: &str,
+    first: u64,
+    second: u64,
+    cutoff: Option<f64>,
+) -> io::Result<()> {
+    search(rt, name, [first, second, ZERO], [1, 1, 0], cutoff)
 }
 
 // The arc 0 to 1, closed, and 0 to 2.
 fn closed(rt: &impl Print, name: &str, first: u64, direct: u64) -> io::Result<()> {
-    search(rt, name, &[first, ZERO, direct], &[0, 0, 1], Cutoff::None)
+    search(rt, name, [first, ZERO, direct], [0, 0, 1], None)
 }
 
 // All three arcs.
 fn detour(rt: &impl Print, name: &str, first: u64, second: u64, direct: u64) -> io::Result<()> {
-    search(rt, name, &[first, second, direct], &[1, 1, 1], Cutoff::None)
+    search(rt, name, [first, second, direct], [1, 1, 1], None)
 }
 
 // The cutoffs.
 fn cutoffs(rt: &impl Print) -> io::Result<()> {
     // A total equal to the cutoff is kept, the next f64 below cuts it; so does 0.0 keep zero totals, and -0.0.
-    chain(rt, "cutoff-equal", ONE_AND_HALF, ONE, Cutoff::At(2.5))?;
+    chain(rt, "cutoff-equal", ONE_AND_HALF, ONE, Some(2.5))?;
     chain(
         rt,
         "cutoff-next-below",
         ONE_AND_HALF,
         ONE,
-        Cutoff::At(2.4999999999999996),
+        Some(2.4999999999999996),
     )?;
-    chain(rt, "cutoff-zero", ZERO, ONE, Cutoff::At(0.0))?;
-    chain(rt, "cutoff-minus-zero", ZERO, ONE, Cutoff::At(-0.0))?;
+    chain(rt, "cutoff-zero", ZERO, ONE, Some(0.0))?;
+    chain(rt, "cutoff-minus-zero", ZERO, ONE, Some(-0.0))?;
     // One below zero leaves the source alone.
-    chain(rt, "cutoff-minus-one", ZERO, ONE, Cutoff::At(-1.0))?;
+    chain(rt, "cutoff-minus-one", ZERO, ONE, Some(-1.0))?;
     chain(
         rt,
         "cutoff-minus-infinity",
         ZERO,
         ONE,
-        Cutoff::At(-1.0 / 0.0),
+        Some(f64::NEG_INFINITY),
     )?;
     // No cutoff, +infinity and a NaN of either sign cut nothing.
-    chain(rt, "cutoff-none", ONE_AND_HALF, ONE, Cutoff::None)?;
+    chain(rt, "cutoff-none", ONE_AND_HALF, ONE, None)?;
     chain(
         rt,
         "cutoff-infinity",
         ONE_AND_HALF,
         ONE,
-        Cutoff::At(1.0 / 0.0),
+        Some(f64::INFINITY),
     )?;
-    chain(rt, "cutoff-nan", ONE_AND_HALF, ONE, Cutoff::At(0.0 / 0.0))?;
-    chain(
-        rt,
-        "cutoff-other-nan",
-        ONE_AND_HALF,
-        ONE,
-        Cutoff::At(-(0.0 / 0.0)),
-    )
+    chain(rt, "cutoff-nan", ONE_AND_HALF, ONE, Some(f64::NAN))?;
+    chain(rt, "cutoff-other-nan", ONE_AND_HALF, ONE, Some(-f64::NAN))
 }
 
 // Bad costs, and costs of closed arcs.
 fn bad_costs(rt: &impl Print) -> io::Result<()> {
     // A cost with its sign bit set is bad, and so is a NaN; bad is seen before the cutoff, but not past it.
-    chain(rt, "cost-minus-zero", MINUS_ZERO, ONE, Cutoff::None)?;
-    chain(rt, "cost-nan", NAN, ONE, Cutoff::None)?;
-    chain(rt, "cost-minus-nan", MINUS_NAN, ONE, Cutoff::None)?;
-    chain(rt, "bad-before-cutoff", MINUS_FIVE, ONE, Cutoff::At(-1.0))?;
-    chain(rt, "bad-past-cutoff", ONE_AND_HALF, NAN, Cutoff::At(1.0))?;
+    chain(rt, "cost-minus-zero", MINUS_ZERO, ONE, None)?;
+    chain(rt, "cost-nan", NAN, ONE, None)?;
+    chain(rt, "cost-minus-nan", MINUS_NAN, ONE, None)?;
+    chain(rt, "bad-before-cutoff", MINUS_FIVE, ONE, Some(-1.0))?;
+    chain(rt, "bad-past-cutoff", ONE_AND_HALF, NAN, Some(1.0))?;
     // Closed arcs are passed over, whatever they cost.
     closed(rt, "closed-nan", NAN, ONE)?;
     closed(rt, "closed-minus-five", MINUS_FIVE, ONE)
@@ -179,12 +174,12 @@ fn bad_costs(rt: &impl Print) -> io::Result<()> {
 // Infinite costs, and sums that are rounded.
 fn sums(rt: &impl Print) -> io::Result<()> {
     // +infinity is a cost and a distance; it doesn't take its own place, and a finite cutoff cuts it.
-    chain(rt, "infinite", INFINITE, ONE, Cutoff::None)?;
+    chain(rt, "infinite", INFINITE, ONE, None)?;
     detour(rt, "infinite-stays", INFINITE, ONE, INFINITE)?;
-    chain(rt, "infinite-cut", ONE, INFINITE, Cutoff::At(2.5))?;
+    chain(rt, "infinite-cut", ONE, INFINITE, Some(2.5))?;
     // A sum past the largest f64, and one that is rounded to its first part: not smaller, so the first predecessor stays.
-    chain(rt, "overflow", LARGEST, LARGEST, Cutoff::None)?;
-    chain(rt, "rounded", TWO_TO_53, ONE, Cutoff::None)?;
+    chain(rt, "overflow", LARGEST, LARGEST, None)?;
+    chain(rt, "rounded", TWO_TO_53, ONE, None)?;
     detour(rt, "rounded-stays", TWO_TO_53, ONE, TWO_TO_53)
 }
 

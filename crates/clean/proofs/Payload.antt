@@ -1,4 +1,4 @@
--- A blank slice of f64 patterns tells one NaN from another: where the entry past the used part came back as another NaN, it is not what `blank_f64` promises.
+-- A blank slice of f64 patterns tells one NaN from another: where the entry past the used part came back as another NaN, it is not what a blank slice is.
 -- Assumes nothing.
 use mathlib.Core.Path.{◌≡◌, ap}
 use mathlib.Core.List.{List, [], ◌∷◌}

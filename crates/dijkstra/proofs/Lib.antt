@@ -1,5 +1,5 @@
 pub mod Refusals
 pub mod Up
-pub mod Answers
 pub mod Solves
+pub mod Answers
 pub mod Settles

@@ -2,23 +2,24 @@
 -- Assumes nothing.
 use mathlib.Core.Path.{◌≡◌, refl}
 use mathlib.Core.Bool.{true}
-use Prim.Native.Nat.{ℕ, ◌≤◌}
+use Prim.Native.Nat.{ℕ}
 use lib.IntN.{ℤ}
-use lib.ListN.{length}
 use Rattle.whole.proofs.Cases.{and_left, and_right}
 use Rattle.numbers.proofs.Numbers as numbers
 use Rattle.net.specs.Net.{Net, whole_net, inside_net, has, most_arcs_of}
+use Rattle.rows.specs.Kept.{EnoughLists}
 use Rattle.rows.specs.Scratch.{has_lists}
 use Rattle.rows.proofs.Kept.{has_lists_lem}
+use Rattle.turns.specs.Firsts.{EnoughMemory}
+use Rattle.search.specs.Check.{check_no}
 use Rattle.search.proofs.Lists.{has_memory_lem}
 use Rattle.dijkstra.specs.Promise.{Buffers, memory, long_enough, enough, table, Promise}
-use Rattle.dijkstra.specs.Parts.{refusal_no, EnoughScratch}
 
 -- ---- the number of the refusal
 module _ (g : Net ℤ) (s : ℕ) (b : Buffers) where
   -- a refusal is what the promise says
-  pub refused : (r : ℕ) → r ≡ refusal_no g s b → (r ≡ 0 → ⊥) → Promise g s b b r
-  unfolding refusal_no
+  pub refused : (r : ℕ) → r ≡ check_no g s b.scratch.rows (memory b) → (r ≡ 0 → ⊥) → Promise g s b b r
+  unfolding check_no long_enough
   refused r q f = record { follows = numbers.refused 3 (table g s b) b (refl, (refl, (refl, tt))) r q f }
 
 -- ---- what a call that is not refused may rest on
@@ -27,25 +28,18 @@ pub record Passed (g : Net ℤ) (s : ℕ) (b : Buffers) : Type 0 where
   pub inside : inside_net g ≡ true
   pub source : has g s ≡ true
   pub whole : whole_net g ≡ true
-  pub dist : g.bound ≤ length b.dist
-  pub room : EnoughScratch g.bound (most_arcs_of g) b.scratch
+  pub rows : EnoughLists g.bound (most_arcs_of g) b.scratch.rows
+  pub memory : EnoughMemory g.bound (memory b)
 
 -- from the tests that passed
 pub enough_passed : (g : Net ℤ) (s : ℕ) (b : Buffers) → enough g b ≡ true → inside_net g ≡ true → has g s ≡ true → Passed g s b
 unfolding long_enough
 enough_passed g s b e i h =
+    let t = has_lists g.bound (most_arcs_of g) b.scratch.rows in
     let l = and_right (whole_net g) _ e in
-    let w = has_memory_lem g.bound (memory b) (and_right (has_lists g.bound (most_arcs_of g) b.scratch.rows) _ l) in
-    record {
-      long = e;
-      inside = i;
-      source = h;
-      whole = and_left (whole_net g) _ e;
-      dist = w.dist;
-      room = record { rows = has_lists_lem _ _ _ (and_left (has_lists g.bound (most_arcs_of g) b.scratch.rows) _ l); preds = w.preds; peaks = w.peaks; words = w.words; keys = w.keys };
-    }
+    record { long = e; inside = i; source = h; whole = and_left (whole_net g) _ e; rows = has_lists_lem _ _ _ (and_left t _ l); memory = has_memory_lem _ _ (and_right t _ l) }
 
 -- from the number 0
-pub passed : (g : Net ℤ) (s : ℕ) (b : Buffers) → refusal_no g s b ≡ 0 → Passed g s b
-unfolding refusal_no
+pub passed : (g : Net ℤ) (s : ℕ) (b : Buffers) → check_no g s b.scratch.rows (memory b) ≡ 0 → Passed g s b
+unfolding check_no long_enough
 passed g s b q = let p = numbers.passed 3 (table g s b) (refl, (refl, (refl, tt))) q in enough_passed g s b p.0 p.1.0 p.1.1.0

@@ -54,8 +54,10 @@ module _ {g : Net ℤ} {s : ℕ} {b : Buffers} where
         go (past l (past i (here h x))) = rw x.1 (kept_none, scratch_same)
         go (past l (past i (past h (here w x)))) =
             let k = enough_passed g s b l i h in
-            (kept_filled none_i64 k.dist (ap (λ (y : Buffers). y.dist) x.1), scratch_wiped k.room (ap (λ (y : Buffers). y.scratch) x.1))
-        go (past l (past i (past h (past w (here t x))))) = (kept_settled x.1.0, scratch_wiped (enough_passed g s b l i h).room x.1.1)
+            (kept_filled none_i64 k.memory.dist (ap (λ (y : Buffers). y.dist) x.1), scratch_wiped k.rows k.memory (ap (λ (y : Buffers). y.scratch) x.1))
+        go (past l (past i (past h (past w (here t x))))) =
+            let k = enough_passed g s b l i h in
+            (kept_settled x.1.0, scratch_wiped k.rows k.memory x.1.1)
         go (past l (past i (past h (past w (past t x))))) = absurd x
 
 -- ---- the promise goes by the arcs: maps that no question can tell apart get the same answers

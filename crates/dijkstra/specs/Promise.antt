@@ -8,11 +8,11 @@ use Rattle.walks.specs.Walk.{Entry}
 use Rattle.pending.specs.Reach.{BadInReach}
 use Rattle.net.specs.Net.{Net, ArcOf, whole_net, inside_net, has, most_arcs_of}
 use Rattle.rows.specs.Rows.{Lists, lists_of}
+use Rattle.rows.specs.declared.Lists as lent
 use Rattle.rows.specs.Scratch.{has_lists, wiped}
 use Rattle.turns.specs.Memory.{Memory, memory_of}
 use Rattle.search.specs.Lists.{has_memory}
-use Rattle.rows.specs.declared.Lists as code
-use Rattle.search.specs.declared.Memory as memory_code
+use Rattle.search.specs.declared.Memory as found
 
 -- the lent scratch: the neighbour list, the predecessors, the bag
 pub record Scratch : Type 0 where
@@ -35,9 +35,10 @@ pub record Buffers : Type 0 where
 abbrev pub buffers_of : List ℤ → List ℕ → List ℕ → List ℤ → List ℕ → List ℕ → List ℕ → List ℤ → Buffers
 buffers_of d o h w p q i k = record { dist = d; scratch = scratch_of o h w p q i k }
 
--- these from the slices that are lent in the structs of the code
-abbrev pub buffers_in : code.Lists ℤ → memory_code.Memory ℤ → Buffers
-buffers_in l m = buffers_of m.dist.now l.offsets.now l.heads.now l.weights.now m.preds.now m.peaks.now m.words.now m.keys.now
+-- these from what holds them in the code
+abbrev pub buffers_in : lent.Lists ℤ → found.Memory ℤ → Buffers
+buffers_in l M =
+    buffers_of M.dist.now l.offsets.now l.heads.now l.weights.now M.preds.now M.peaks.now M.words.now M.keys.now
 
 -- the lists that the search writes
 abbrev pub memory : Buffers → Memory ℤ

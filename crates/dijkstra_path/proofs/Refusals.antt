@@ -12,16 +12,16 @@ use Rattle.rows.specs.Scratch.{has_lists}
 use Rattle.rows.specs.Kept.{EnoughLists}
 use Rattle.rows.proofs.Kept.{has_lists_lem}
 use Rattle.turns.specs.Firsts.{EnoughMemory}
+use Rattle.search.specs.Check.{check_no}
 use Rattle.search.proofs.Lists.{has_memory_lem}
 use Rattle.dijkstra_path.specs.Promise.{Buffers, long_enough, enough, table, Promise}
-use Rattle.dijkstra_path.specs.Parts.{refusal_no}
 use Rattle.float.specs.Cutoff.{Cutoff}
 use Rattle.std.specs.Prelude.{None}
 
 module _ (g : Net FloatCost) (s : ℕ) (b : Buffers) where
   -- a refusal is what the promise says
-  pub refused : (k : Cutoff) (r : ℕ) → r ≡ refusal_no g s b → (r ≡ 0 → ⊥) → Promise g s k b b r
-  unfolding refusal_no
+  pub refused : (k : Cutoff) (r : ℕ) → r ≡ check_no g s b.rows b.memory → (r ≡ 0 → ⊥) → Promise g s k b b r
+  unfolding check_no long_enough
   refused k r q f = record { follows = numbers.refused 3 (table g s k b) b (refl then refl then refl then tt) r q f }
 
 -- what a call that is not refused may rest on
@@ -42,6 +42,6 @@ enough_passed g s b e i h =
     record { long = e; inside = i; source = h; whole = and_left (whole_net g) _ e; rows = has_lists_lem _ _ _ (and_left t _ l); memory = has_memory_lem _ _ (and_right t _ l) }
 
 -- from the number 0
-pub passed : (g : Net FloatCost) (s : ℕ) (b : Buffers) → refusal_no g s b ≡ 0 → Passed g s b
-unfolding refusal_no
+pub passed : (g : Net FloatCost) (s : ℕ) (b : Buffers) → check_no g s b.rows b.memory ≡ 0 → Passed g s b
+unfolding check_no long_enough
 passed g s b q = let w = numbers.passed 3 (table g s None b) (refl then refl then refl then tt) q in enough_passed g s b w.0 w.1.0 w.1.1.0

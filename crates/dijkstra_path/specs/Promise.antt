@@ -8,15 +8,15 @@ use Rattle.clean.specs.None.{none_f64, none_u32, shown}
 use Rattle.float.specs.Cutoff.{Cutoff, past}
 use Rattle.table.specs.declared.FloatCost.{FloatCost}
 use Rattle.net.specs.Net.{Net, whole_net, inside_net, has, most_arcs_of}
-use Rattle.rows.specs.Rows.{Lists, lists_of, open_rows}
+use Rattle.rows.specs.Rows.{Lists, lists_of, lists_in, open_rows}
+use Rattle.rows.specs.declared.Lists as lent
 use Rattle.rows.specs.Scratch.{has_lists, wiped}
 use Rattle.pending.specs.Setting.{End}
 use Rattle.pending.specs.Literal.{start, Ends}
 use Rattle.pending.specs.Floats.{search64}
 use Rattle.turns.specs.Memory.{Memory, memory_of}
-use Rattle.search.specs.Lists.{has_memory}
-use Rattle.rows.specs.declared.Lists as code
-use Rattle.search.specs.declared.Memory as memory_code
+use Rattle.search.specs.Lists.{has_memory, memory_in}
+use Rattle.search.specs.declared.Memory as found
 
 -- the lent buffers: the neighbour list, and what the search writes, with the answers in it: distances, as patterns, and predecessors
 pub record Buffers : Type 0 where
@@ -27,9 +27,9 @@ pub record Buffers : Type 0 where
 abbrev pub buffers_of : List ℕ → List ℕ → List ℕ → List ℕ → List ℕ → List ℕ → List ℕ → List ℕ → Buffers
 buffers_of d p o h w q i k = record { rows = lists_of o h w; memory = memory_of d p q i k }
 
--- these from the slices that are lent in the structs of the code
-abbrev pub buffers_in : code.Lists ℕ → memory_code.Memory ℕ → Buffers
-buffers_in l m = buffers_of m.dist.now m.preds.now l.offsets.now l.heads.now l.weights.now m.peaks.now m.words.now m.keys.now
+-- these from what holds them in the code
+abbrev pub buffers_in : lent.Lists ℕ → found.Memory ℕ → Buffers
+buffers_in l M = record { rows = lists_in l; memory = memory_in M }
 
 -- is each buffer as long as the part used? 4m + 1 + 2a entries of scratch in all
 unfoldable pub long_enough : ℕ → ℕ → Buffers → Bool

@@ -20,6 +20,10 @@ refusal_no g b = first_no 2 (table g b)
 abbrev pub net_ends : ℕ → ℕ → Bool → List ℕ → List ℕ → List ℕ → Net Unit
 net_ends m n d marks xs ys = record { bound = m; count = n; directed = d; room = room_ends xs ys; marks = marks; table = ends xs ys }
 
+-- the same of a lent map of any kind
+abbrev pub ends_in : {D : Type 0} → Lent D → Net Unit
+ends_in l = net_ends l.map.bound l.map.count l.map.directed l.marks.now l.from.now l.to.now
+
 -- the buffers are as long as their parts used
 pub record Fits (m a p : ℕ) (b : Buffers) : Type 0 where
   pub nodes : p ≤ length b.nodes

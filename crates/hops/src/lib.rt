@@ -10,7 +10,7 @@ ghost use Rattle.rows.specs.RowArc.{Sound};
 ghost use Rattle.hops.specs.Search.{RowLeads, label_of, size_after, Met, Open, RowDone, Fresh, Searched};
 ghost use Rattle.hops.specs.Search.{shown_of, CanShow, RowShown, CanRow, RowMade, CanFill, Filled};
 ghost use Rattle.hops.specs.Promise.{Promise, buffers_in, SameTable, SameScratch, long_enough};
-ghost use Rattle.hops.specs.Parts.{refusal_no, net_ends, EnoughScratch, Wiped, RipeIn, Solved, Answered};
+ghost use Rattle.hops.specs.Parts.{refusal_no, ends_in, EnoughScratch, Wiped, RipeIn, Solved, Answered};
 
 use net::{Costs, Lent};
 use numbers::Refusal;
@@ -176,10 +176,7 @@ fn fill(
 // List the nodes and fill the matrix, by the ends of the links alone. Gives p.
 fn solve<C: Costs>(net: Lent<C>, table: &mut Table, scratch: &mut Scratch) -> usize
     requires { RipeIn net table.old scratch.old }
-    ensures solved { Solved
-        (net_ends net.entry.map.bound net.entry.map.count net.entry.map.directed net.entry.marks.now net.entry.from.now
-        net.entry.to.now)
-        (buffers_in table.old scratch.old) (buffers_in table.new scratch.new) result }
+    ensures solved { Solved (ends_in net.entry) (buffers_in table.old scratch.old) (buffers_in table.new scratch.new) result }
     ensures same_table { SameTable table.old table.new }
     ensures same_scratch { SameScratch scratch.old scratch.new }
 {
@@ -219,10 +216,7 @@ impl<'a> Scratch<'a> {
 // The answer for a map of either kind that is not refused. Gives p.
 fn answer<C: Costs>(net: Lent<C>, table: &mut Table, scratch: &mut Scratch) -> usize
     requires { RipeIn net table.old scratch.old }
-    ensures answered { Answered
-        (net_ends net.entry.map.bound net.entry.map.count net.entry.map.directed net.entry.marks.now net.entry.from.now
-        net.entry.to.now)
-        (buffers_in table.old scratch.old) (buffers_in table.new scratch.new) result }
+    ensures answered { Answered (ends_in net.entry) (buffers_in table.old scratch.old) (buffers_in table.new scratch.new) result }
     ensures same_table { SameTable table.old table.new }
     ensures same_scratch { SameScratch scratch.old scratch.new }
 {

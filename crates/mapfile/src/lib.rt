@@ -325,7 +325,7 @@ impl Reading {
 }
 
 // A head: the first record, with no more indices than there are marks. Every index below m is then present.
-#[tactic(auto, unfolding(crate::specs::Load::head_step, clean::specs::Fill::filled))]
+#[tactic(auto, unfolding(crate::specs::Load::head_step))]
 fn take_head(w: Reading, m: u16, directed: bool, float: bool, marks: &mut [u8]) -> Reading
     requires { w.at + 8 < 2 ^ 64 }
     ensures { OnMarks (head_step m directed float) w marks.old result marks.new }
@@ -333,7 +333,7 @@ fn take_head(w: Reading, m: u16, directed: bool, float: bool, marks: &mut [u8]) 
     let bound = usize::from(m);
     match w.stage {
         Stage::Start if bound <= marks.len() => {
-            marks[..bound].fill(1);
+            clean::fill(marks, bound, 1);
             Reading {
                 stage: Stage::Headed,
                 at: w.at + 8,
@@ -383,11 +383,9 @@ fn take_link(
     if !w.link_may(false) {
         return w.broken();
     }
-    let done = table::put(w.map(), marks, from, to, costs, a, b, cost);
-    if done.refusal == 0 {
-        w.onward(Stage::Linked, 12, done.count)
-    } else {
-        w.broken()
+    match table::put(w.map(), marks, from, to, costs, a, b, cost) {
+        Ok(count) => w.onward(Stage::Linked, 12, count),
+        Err(_) => w.broken(),
     }
 }
 
@@ -412,11 +410,9 @@ fn take_float(
     if !w.link_may(true) {
         return w.broken();
     }
-    let done = table::put_f64(w.map(), marks, from, to, bits, opens, a, b, pattern, opened);
-    if done.refusal == 0 {
-        w.onward(Stage::Linked, 17, done.count)
-    } else {
-        w.broken()
+    match table::put_f64(w.map(), marks, from, to, bits, opens, a, b, pattern, opened) {
+        Ok(count) => w.onward(Stage::Linked, 17, count),
+        Err(_) => w.broken(),
     }
 }
 

@@ -1,52 +1,26 @@
 // Reads a map file from standard input and writes its sheet to standard output.
 #![tactic(auto)]
 
-ghost use Rattle.std.specs.Counts.{IsPrefixLen};
-
+use std::io;
 use std::io::{Read, Stdin};
 
-// What came of reading: the number of bytes, and whether a read failed.
-#[derive(Drop)]
-struct Input {
-    count: usize,
-    failed: bool,
-}
-
-// Reads until the buffer is full, the input ends or a read fails, however few bytes come at a time.
-fn read_all(mut from: Stdin, buf: &mut [u8]) -> Input
-    ensures { IsPrefixLen result.count buf.new }
-{
-    let mut done: usize = 0;
-    while done < buf.len() {
-        match from.read(&mut buf[done..]) {
-            Ok(0) => break,
-            Ok(more) => done += more,
-            Err(_) => {
-                return Input {
-                    count: done,
-                    failed: true,
-                };
-            }
-        }
-    }
-    Input {
-        count: done,
-        failed: false,
-    }
+// Reads until the buffer is full or the input ends, however few bytes come at a time, and gives what was read.
+// Each program has its own: a crate that they share would be longer.
+fn read_full(from: Stdin, buf: &mut [u8]) -> io::Result<&[u8]> {
+    let n = io::copy(&mut from.take(buf.len() as u64), &mut &mut buf[..])? as usize;
+    Ok(&buf[..n.min(buf.len())])
 }
 
 // A file that is too long is read one byte past the limit, no further. There is no exit status: a failure is told on standard error.
 fn main(rt: HostRuntime) {
-    let mut file = [0u8; sheet::LIMIT + 1];
-    let mut out = [0u8; sheet::OUTPUT];
-    let input = read_all(rt.stdin(), &mut file);
-    if input.failed {
+    let mut space = [0u8; sheet::LIMIT + 1];
+    let Ok(file) = read_full(rt.stdin(), &mut space) else {
         let _ = eprintln!(rt; "paths: standard input cannot be read");
         return;
-    }
-    let n = input.count;
-    let k = sheet::sheet(&file[..n], &mut out);
-    if rt.write_all(&out[..k]).is_err() {
+    };
+    let mut out = [0u8; sheet::OUTPUT];
+    let n = sheet::sheet(file, &mut out);
+    if rt.write_all(&out[..n]).is_err() {
         let _ = eprintln!(rt; "paths: standard output cannot be written");
     }
 }

@@ -137,8 +137,8 @@ module _ (g : Net ℤ) (s : ℕ) (b b' : dijkstra.Buffers) where
           → Settled g.bound (Entry (ArcOf g) s) b.dist e.dist × (e.scratch ≡ dijkstra.clear g b)
           → Settled g.bound (Entry (ArcOf g) s) b'.dist e'.dist × (e'.scratch ≡ dijkstra.clear g b') → DijkstraLeave 0 e e'
       settled l i h e e' p q =
-          let k = (dijkstra_refusals.enough_passed g s b l i h).dist in
-          let k' = (dijkstra_refusals.enough_passed g s b' (sym long ∙ l) i h).dist in
+          let k = (dijkstra_refusals.enough_passed g s b l i h).memory.dist in
+          let k' = (dijkstra_refusals.enough_passed g s b' (sym long ∙ l) i h).memory.dist in
           ran (inl refl) (dijkstra_left e e' (part_settled (pos 0) (λ v k x y. entry_one) k k' p.0 q.0) p.1 q.1)
 
   pub dijkstra_memory : {e e' : dijkstra.Buffers} {number number' : ℕ} → dijkstra.enough g b ≡ dijkstra.enough g b' → dijkstra.Promise g s b e number → dijkstra.Promise g s b' e' number'

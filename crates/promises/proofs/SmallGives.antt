@@ -53,7 +53,7 @@ module _ (g : Net ℤ) (s : ℕ) (inside : inside_net g ≡ true) (source : has 
   pub dijkstra_zero : (xs : List ℤ) → length xs ≡ g.bound → (BadInReach (ArcOf g) s → ⊥) → ((v : ℕ) → v < g.bound → Entry (ArcOf g) s v (get_or xs v (pos 0)))
       → (b e : Dijkstra.Buffers) (number : ℕ) → Dijkstra.enough g b ≡ true → Dijkstra.Promise g s b e number → (number ≡ 0) × (e.dist ≡ starting xs b.dist)
   dijkstra_zero xs q w f b e k long p =
-      let room = (DijkstraPassed.enough_passed g s b long inside source).dist in
+      let room = (DijkstraPassed.enough_passed g s b long inside source).memory.dist in
       let left : Dijkstra.Buffers = record { dist = starting xs b.dist; scratch = Dijkstra.clear g b } in
       let found = starting_settled g.bound xs b.dist q room f in
       let made : Dijkstra.Promise g s b left 0 = record { follows = past long (past inside (past source (past w (here tt (refl, (found, refl)))))) } in

@@ -1,240 +1,160 @@
-// Reading a line of the list: words, each behind one space.
-// A read takes the place behind the word before it and gives the place behind its own.
-// A word that is missing, ill-formed or past its width is lost, and with it every word behind it, so one look at the end of a line tells.
-ghost use Rattle.std.specs.Prelude.{◌≤◌, ◌<◌};
+// Reading a line of the list, word by word. A read moves on behind what it reads;
+// it gives `None` where that is missing, ill-formed or past its width, and the line is then no case.
+ghost use Rattle.std.specs.Prelude.{◌≤◌, IfSome};
 
-// The place behind a lost word: no list has it.
-pub const LOST: usize = 0xffff_ffff_ffff_ffff;
+use crate::questions::Question;
 
-// A number that has no room for another digit: in base 16 it would pass 64 bits, in base 10 every width of the list.
-const LONG: u64 = 0x1000_0000_0000_0000;
-
-// A number, or bits.
-#[derive(Clone, Copy)]
-pub struct Word {
-    pub size: u64,
-    pub next: usize,
+// What is left of a line.
+#[derive(Drop)]
+pub struct Line<'a> {
+    rest: &'a [u8],
 }
 
-// A number of 64 bits with a sign.
-#[derive(Clone, Copy)]
-pub struct Signed64 {
-    pub value: i64,
-    pub next: usize,
+// The value of a digit of this base, at most 16. No capital is one.
+fn digit(c: u8, base: u64) -> Option<u64> {
+    if c.is_ascii_uppercase() {
+        return None;
+    }
+    char::from(c)
+        .to_digit(16)
+        .map(u64::from)
+        .filter(|value| *value < base)
 }
 
-// A number of 32 bits with a sign.
-#[derive(Clone, Copy)]
-pub struct Signed32 {
-    pub value: i32,
-    pub next: usize,
-}
+impl<'a> Line<'a> {
+    // The line that this text is.
+    pub fn new(text: &'a [u8]) -> Self {
+        Line { rest: text }
+    }
 
-// The place behind this byte if it stands here.
-pub fn past(list: &[u8], at: usize, c: u8) -> usize {
-    if at < list.len() {
-        if list[at] == c {
-            return at + 1;
+    // These bytes.
+    pub fn text(&mut self, text: &[u8]) -> Option<()> {
+        self.rest = self.rest.strip_prefix(text)?;
+        Some(())
+    }
+
+    // A number by its digits, at least one, the first of several not 0.
+    fn digits(&mut self, base: u64) -> Option<u64> {
+        let end = self.rest.iter().position(|c| digit(*c, base).is_none());
+        let (digits, rest) = self.rest.split_at(end.unwrap_or(self.rest.len()));
+        self.rest = rest;
+        match digits {
+            [] | [b'0', _, ..] => None,
+            _ => digits.iter().try_fold(0u64, |size, c| {
+                size.checked_mul(base)?.checked_add(digit(*c, base)?)
+            }),
         }
     }
-    LOST
-}
 
-// The start of the next line.
-pub fn next_line(list: &[u8], at: usize) -> usize {
-    let mut i = at;
-    while i < list.len() {
-        if list[i] == b'\n' {
-            return i + 1;
+    // A number by its decimal digits, at most this.
+    fn decimal(&mut self, most: usize) -> Option<usize>
+        ensures { IfSome result (λ size. size ≤ most) }
+    {
+        let size = self.digits(10)? as usize;
+        if size <= most { Some(size) } else { None }
+    }
+
+    // The question, which begins a line.
+    pub fn question(&mut self) -> Option<Question> {
+        Question::from_number(self.decimal(9)?)
+    }
+
+    // A word that is a number from 0 to this.
+    pub fn whole(&mut self, most: usize) -> Option<usize>
+        ensures { IfSome result (λ size. size ≤ most) }
+    {
+        self.text(b" ")?;
+        self.decimal(most)
+    }
+
+    // A word that is 0 or 1.
+    pub fn flag(&mut self) -> Option<bool> {
+        Some(self.whole(1)? == 1)
+    }
+
+    // An index or a count of hops: below the number that is none.
+    pub fn index(&mut self) -> Option<usize>
+        ensures { IfSome result (λ size. size ≤ 4294967294) }
+    {
+        self.whole(4294967294)
+    }
+
+    // An end of a link.
+    pub fn end(&mut self) -> Option<u16> {
+        Some(self.whole(65535)? as u16)
+    }
+
+    // Bits, in hexadecimal.
+    pub fn bits(&mut self) -> Option<u64> {
+        self.text(b" ")?;
+        self.digits(16)
+    }
+
+    // A number of 64 bits with a sign, but not the least, which is none.
+    pub fn signed(&mut self) -> Option<i64> {
+        if self.text(b" -").is_none() {
+            return Some(self.whole(9223372036854775807)? as i64);
         }
-        i += 1;
-    }
-    i
-}
-
-// A digit's value, hexadecimal ones too, or 16 where it is none.
-fn digit(c: u8) -> u64 {
-    if c >= b'0' && c <= b'9' {
-        return (c - b'0') as u64;
-    }
-    if c >= b'a' && c <= b'f' {
-        return (c - b'a') as u64 + 10;
-    }
-    16
-}
-
-// A number with one more digit of base 10 or 16.
-fn longer(size: u64, d: u64, base: u64) -> u64
-    requires size_bound { size < 1152921504606846976 }
-    requires d_bound { d < 16 }
-{
-    if base == 16 {
-        return size * 16 + d;
-    }
-    size * 10 + d
-}
-
-// A lost word.
-fn lost() -> Word {
-    Word {
-        size: 0,
-        next: LOST,
-    }
-}
-
-// The number whose digits begin here, at least one, the first of several not 0.
-fn digits(list: &[u8], at: usize, base: u64) -> Word
-    requires { base ≤ 16 }
-{
-    let mut size: u64 = 0;
-    let mut i = at;
-    while i < list.len() {
-        let d = digit(list[i]);
-        if d >= base {
-            break;
-        }
-        if size >= LONG || size == 0 && i > at {
-            return lost();
-        }
-        size = longer(size, d, base);
-        i += 1;
-    }
-    if i <= at {
-        return lost();
-    }
-    Word {
-        size: size,
-        next: i,
-    }
-}
-
-// The number whose decimal digits begin here, if it is at most this.
-fn decimal(list: &[u8], at: usize, most: u64) -> Word
-    ensures { result.size ≤ most }
-{
-    let word = digits(list, at, 10);
-    if word.size > most {
-        return Word {
-            size: 0,
-            next: LOST,
-        };
-    }
-    word
-}
-
-// The question, which begins a line: 1 to 9, or 0 if none is named.
-pub fn question(list: &[u8], at: usize) -> Word {
-    decimal(list, at, 9)
-}
-
-// A number from 0 to this.
-pub fn whole(list: &[u8], at: usize, most: u64) -> Word
-    ensures { result.size ≤ most }
-{
-    decimal(list, past(list, at, b' '), most)
-}
-
-// Bits, in hexadecimal.
-pub fn bits(list: &[u8], at: usize) -> Word {
-    digits(list, past(list, at, b' '), 16)
-}
-
-// The place behind none.
-fn none(list: &[u8], at: usize) -> usize {
-    past(list, past(list, at, b' '), b'x')
-}
-
-// An index or a count of hops: below the number that is none.
-pub fn index(list: &[u8], at: usize) -> Word {
-    whole(list, at, 4294967294)
-}
-
-// An index or a count of hops, or none.
-pub fn index_or_none(list: &[u8], at: usize) -> Word {
-    let next = none(list, at);
-    if next != LOST {
-        return Word {
-            size: clean::NONE_U32 as u64,
-            next: next,
-        };
-    }
-    index(list, at)
-}
-
-// Bits of a distance, or none; none is written in no other way.
-pub fn bits_or_none(list: &[u8], at: usize) -> Word {
-    let next = none(list, at);
-    if next != LOST {
-        return Word {
-            size: clean::NONE_F64,
-            next: next,
-        };
-    }
-    let word = bits(list, at);
-    if word.size == clean::NONE_F64 {
-        return lost();
-    }
-    word
-}
-
-// A number below zero by its size.
-fn minus(size: u64) -> i64
-    requires size_nonzero { 0 < size }
-    requires size_bound { size ≤ 9223372036854775807 }
-{
-    -1 - ((size - 1) as i64)
-}
-
-// A number of 64 bits with a sign, but not the least, which is none.
-pub fn signed(list: &[u8], at: usize) -> Signed64 {
-    let start = past(list, at, b' ');
-    let digits = past(list, start, b'-');
-    if digits == LOST {
-        let word = decimal(list, start, 9223372036854775807);
-        return Signed64 {
-            value: word.size as i64,
-            next: word.next,
-        };
-    }
-    let word = decimal(list, digits, 9223372036854775807);
-    if word.size == 0 {
-        return Signed64 {
-            value: 0,
-            next: LOST,
-        };
-    }
-    Signed64 {
-        value: minus(word.size),
-        next: word.next,
-    }
-}
-
-// A total, or none.
-pub fn signed_or_none(list: &[u8], at: usize) -> Signed64 {
-    let next = none(list, at);
-    if next != LOST {
-        return Signed64 {
-            value: clean::NONE_I64,
-            next: next,
-        };
-    }
-    signed(list, at)
-}
-
-// A cost: a number of 32 bits with a sign.
-pub fn cost(list: &[u8], at: usize) -> Signed32 {
-    let word = signed(list, at);
-    let value = word.value;
-    if value >= -2147483648 {
-        if value <= 2147483647 {
-            return Signed32 {
-                value: value as i32,
-                next: word.next,
-            };
+        match self.decimal(9223372036854775807)? {
+            0 => None,
+            size => Some(-(size as i64)),
         }
     }
-    Signed32 {
-        value: 0,
-        next: LOST,
+
+    // Does none stand here?
+    fn is_none(&mut self) -> bool {
+        self.text(b" x").is_some()
+    }
+
+    // The number of an answer.
+    pub fn number(&mut self) -> Option<usize> {
+        self.whole(8)
+    }
+
+    // Are the first n of these what the line says, one word for each?
+    pub fn same<T: Entry>(&mut self, got: &[T], n: usize) -> Option<bool> {
+        let mut same = true;
+        for x in got.iter().take(n) {
+            same &= T::read(self)? == *x;
+        }
+        Some(same)
+    }
+}
+
+// What answers have many of: a number, or none.
+pub trait Entry: Copy + PartialEq {
+    fn read(line: &mut Line<'_>) -> Option<Self>;
+}
+
+// A distance, a cost, or an entry of a matrix.
+impl Entry for i64 {
+    fn read(line: &mut Line<'_>) -> Option<i64> {
+        if line.is_none() {
+            Some(clean::NONE_I64)
+        } else {
+            line.signed()
+        }
+    }
+}
+
+// A predecessor, a node, hops, or an index of a path.
+impl Entry for u32 {
+    fn read(line: &mut Line<'_>) -> Option<u32> {
+        if line.is_none() {
+            Some(clean::NONE_U32)
+        } else {
+            Some(line.index()? as u32)
+        }
+    }
+}
+
+// The bits of a distance; none is written in no other way.
+impl Entry for u64 {
+    fn read(line: &mut Line<'_>) -> Option<u64> {
+        if line.is_none() {
+            Some(clean::NONE_F64)
+        } else {
+            line.bits().filter(|bits| *bits != clean::NONE_F64)
+        }
     }
 }

@@ -1,11 +1,11 @@
 -- Slices of which only the part used changed: one change after another, by a store, by filling, by a neighbour list that was made; and wiped.
 -- Assumes nothing.
 use mathlib.Core.Path.{◌≡◌, refl, sym, ap, ◌∙◌}
-use mathlib.Core.Bool.{true, false}
+use mathlib.Core.Bool.{true}
 use mathlib.Core.List.{List}
 use Prim.Native.Nat.{ℕ, ◌+◌, ◌-◌, ◌≤◌, ◌<◌}
 use native.Mathlib.Omega.{arith}
-use borrow.Author.Tests.{leb-true, le-leb, lt-leb}
+use borrow.Author.Tests.{leb-true}
 use lib.Dec.{leb}
 use lib.ListN.{length, drop, set, length-set}
 use lib.Seq.{drop-set-lt, drop-drop}
@@ -53,20 +53,7 @@ module _ {A : Type 0} where
 
 -- the slices of a neighbour list
 module _ {C : Type 0} where
-  -- what the tests of the lengths say
-  module _ (m a : ℕ) (s : Lists C) where
-    pub room_offsets : length s.offsets ≤ m → false ≡ has_lists m a s
-    unfolding has_lists
-    room_offsets h = rw (lt-leb (m + 1) (length s.offsets) (omega arith))
-
-    pub room_heads : m < length s.offsets → length s.heads < a → false ≡ has_lists m a s
-    unfolding has_lists
-    room_heads h k = rw (le-leb (m + 1) (length s.offsets) (omega arith), lt-leb a (length s.heads) k)
-
-    pub room_weights : m < length s.offsets → a ≤ length s.heads → leb a (length s.weights) ≡ has_lists m a s
-    unfolding has_lists
-    room_weights h k = rw (le-leb (m + 1) (length s.offsets) (omega arith), le-leb a (length s.heads) k)
-
+  -- what the test of the lengths says
   pub has_lists_lem : (m a : ℕ) (s : Lists C) → has_lists m a s ≡ true → EnoughLists m a s
   unfolding has_lists
   has_lists_lem m a s e =

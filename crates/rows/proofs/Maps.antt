@@ -17,11 +17,10 @@ use lib.Seq.{length-take-le, get_or-take}
 use Rattle.table.specs.Links.{Link, link_of, zip3, links, ends, inside, all_inside, turned, arcs_of, arcs, Arc, Leads}
 use Rattle.table.specs.Lent.{float_cost, float_costs, OpenArc}
 use Rattle.table.specs.declared.FloatCost.{FloatCost}
-use Rattle.table.proofs.Laws.{Room, zip_at, zip_long, costs_long, all_at, present_below, both_below}
+use Rattle.table.proofs.Laws.{zip_at, zip_long, costs_long, all_at, present_below, both_below}
 use Rattle.table.proofs.Arcs.{arc_inside}
-use Rattle.net.specs.Net.{Net, net_of, net_of64, net_in, links_of, ArcOf, OpenArcOf, whole_net, inside_net, most_arcs, most_arcs_of}
-use Rattle.net.specs.declared.Lent.{Lent}
-use Rattle.net.proofs.Bounds.{whole_of, long_of, whole_ints, long_ints, whole_floats, long_floats}
+use Rattle.net.specs.Net.{Net, net_of, net_of64, links_of, ArcOf, OpenArcOf, whole_net, inside_net, most_arcs, most_arcs_of}
+use Rattle.net.proofs.Bounds.{whole_ints, long_ints, whole_floats, long_floats}
 use Rattle.net.proofs.Same.{arc_below, open_below}
 use Rattle.walks.specs.Costs.{Costs32}
 use Rattle.rows.specs.Rows.{Lists, open_links, arcs_ends, Ready, EnoughFor, Rows}
@@ -77,14 +76,6 @@ ready_of {C} m n marks xs ys cs h k p q s e = record { indices = h; few = k; in_
         let o : Link C = some_of (links n xs ys cs) (omega arith) in
         let at = get_or-take n (zip3 xs ys cs) j o l ∙ zip_at xs ys cs o j (omega arith) (omega arith) (omega arith) in
         both_below m marks (get_or xs j 0) (get_or ys j 0) (subst (λ (x : Link C). inside m marks x ≡ true) at (all_at m marks (links n xs ys cs) o j (omega (arith, long)) e))
-
--- so is a lent map of any kind
-pub ready_lent : {D C : Type 0} (listed : D → List C) (room : List ℕ → List ℕ → D → ℕ) (l : Lent D) → Room (room l.from.now l.to.now l.costs) l.from.now l.to.now (length (listed l.costs))
-    → whole_net (net_in listed room l) ≡ true → inside_net (net_in listed room l) ≡ true → Ready l.map.bound l.map.count l.from.now l.to.now × (l.map.count ≤ length (listed l.costs))
-ready_lent listed room l fits e i =
-    let w = whole_of (net_in listed room l) l.from.now l.to.now (listed l.costs) fits refl e in
-    let k = long_of (net_in listed room l) l.from.now l.to.now (listed l.costs) fits refl e in
-    (ready_of l.map.bound l.map.count l.marks.now l.from.now l.to.now (listed l.costs) w.indices w.links k.0 k.1 k.2 i, k.2)
 
 pub ready_ints : (m n : ℕ) (d : Bool) (marks xs ys : List ℕ) (cs : List ℤ) → whole_net (net_of m n d marks xs ys cs) ≡ true → inside_net (net_of m n d marks xs ys cs) ≡ true
     → Ready m n xs ys × (n ≤ length cs)

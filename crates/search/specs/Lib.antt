@@ -7,3 +7,4 @@ pub mod Runs
 pub mod Lists
 pub mod IntRule
 pub mod FloatRule
+pub mod Check

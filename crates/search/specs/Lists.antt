@@ -31,6 +31,10 @@ abbrev pub wiped_with : {K : Type 0} → K → ℕ → Memory K → Memory K
 wiped_with x m M =
     memory_of (filled m x M.dist) (filled m 0 M.preds) (filled m 0 M.peaks) (filled m 0 M.words) (filled m x M.keys)
 
+-- the same in the bag's lists alone
+abbrev pub bag_wiped : {K : Type 0} → K → ℕ → Memory K → Memory K
+bag_wiped x m M = memory_of M.dist M.preds (filled m 0 M.peaks) (filled m 0 M.words) (filled m x M.keys)
+
 -- zero in all of them
 abbrev pub wiped_memory : ℕ → Memory ℤ → Memory ℤ
 wiped_memory = wiped_with (pos 0)

@@ -9,6 +9,8 @@ ghost use Rattle.bag.specs.Content.{content_of, IsLeast};
 ghost use Rattle.clean.specs.Fill.{filled};
 ghost use Rattle.clean.specs.None.{none_u32};
 ghost use Rattle.rows.specs.Rows.{lists_in};
+ghost use Rattle.net.specs.Net.{net_in};
+ghost use Rattle.numbers.specs.Refusal.{number_of as refusal_no};
 ghost use Rattle.numbers.specs.declared.Refusal.TheVariants.{BadCost as Bad};
 ghost use Rattle.rows.specs.RowArc.{RowArc};
 ghost use Rattle.turns.specs.Kind.{Kind, ordered};
@@ -21,9 +23,11 @@ ghost use Rattle.turns.proofs.Right.{Way, Right};
 ghost use Rattle.search.specs.Target.{target_in};
 ghost use Rattle.search.specs.Found.{number_of, takes_of};
 ghost use Rattle.search.specs.Runs.{Cheap, ToAll};
-ghost use Rattle.search.specs.Lists.{has_memory, wiped_with, memory_in, SameMemory};
+ghost use Rattle.search.specs.Lists.{has_memory, wiped_with, bag_wiped, memory_in, SameMemory};
+ghost use Rattle.search.specs.Check.{check_no};
 
 use bag::Key;
+use net::{Costs, Lent};
 use numbers::Refusal;
 use rows::Lists;
 
@@ -124,6 +128,15 @@ impl<'a, K: Copy> Memory<'a, K> {
     {
         clean::fill(self.dist, m, zero);
         clean::fill(self.preds, m, 0);
+        self.wipe_bag(m, zero);
+    }
+
+    // The same in the bag's lists alone.
+    pub fn wipe_bag(&mut self, m: usize, zero: K)
+        requires { EnoughMemory m (memory_in self.old) }
+        ensures wiped { memory_in self.new ≡ bag_wiped zero m (memory_in self.old) }
+        ensures same { SameMemory self.old self.new }
+    {
         clean::fill(self.peaks, m, 0);
         clean::fill(self.words, m, 0);
         clean::fill(self.keys, m, zero);
@@ -144,6 +157,29 @@ impl<'a, K: Copy> Memory<'a, K> {
         clean::fill(self.preds, m, clean::NONE_U32);
         clean::fill(self.peaks, m, 0);
         clean::fill(self.words, m, 0);
+    }
+}
+
+// May a map of either kind be searched from a source? Limit where a limit is passed or a lent list is too short, Index where a link
+// names an index that the map has not, Source where the source is one.
+#[tactic(auto, unfolding(crate::specs::Check::check_no))]
+pub fn check<C: Costs, W: Copy, K: Copy>(
+    net: &Lent<C>,
+    source: usize,
+    lists: &Lists<W>,
+    memory: &Memory<K>,
+) -> Result<(), Refusal>
+    ensures { refusal_no result ≡ check_no (net_in C.listed C.room net.now) source (lists_in lists.now) (memory_in memory.now) }
+{
+    let m = net.map.bound;
+    if !net.whole() || !lists.long_enough(m, net.most_arcs()) || !memory.long_enough(m) {
+        Err(Refusal::Limit)
+    } else if !net.inside() {
+        Err(Refusal::Index)
+    } else if !net.has(source) {
+        Err(Refusal::Source)
+    } else {
+        Ok(())
     }
 }
 

@@ -106,7 +106,8 @@ fn put_fields<E: Entry>(out: &mut [u8], at: usize, entries: &[E]) -> usize
 // Puts a line of a word and a number.
 fn print_number(out: &mut [u8], at: usize, word: &[u8], n: usize) -> usize
     requires { at + length word.now + 22 ≤ length out.old }
-    ensures { Printed out.old at (line word.now (decimal_text n ∷ [])) out.new result }
+    ensures printed { Printed out.old at (line word.now (decimal_text n ∷ [])) out.new result }
+    ensures short { result ≤ at + length word.now + 22 }
 {
     let text = lines::put_bytes(out, at, word);
     let number = put_field(out, text, n);
@@ -116,7 +117,8 @@ fn print_number(out: &mut [u8], at: usize, word: &[u8], n: usize) -> usize
 // Puts the line `refused N`.
 pub fn print_refused(out: &mut [u8], at: usize, n: usize) -> usize
     requires { at + 29 ≤ length out.old }
-    ensures { Printed out.old at (refused_line n) out.new result }
+    ensures printed { Printed out.old at (refused_line n) out.new result }
+    ensures short { result ≤ at + 29 }
 {
     print_number(out, at, &lines::REFUSED, n)
 }
@@ -124,7 +126,8 @@ pub fn print_refused(out: &mut [u8], at: usize, n: usize) -> usize
 // Puts the line `bad map at K`.
 pub fn print_bad(out: &mut [u8], at: usize, k: usize) -> usize
     requires { at + 32 ≤ length out.old }
-    ensures { Printed out.old at (bad_text k) out.new result }
+    ensures printed { Printed out.old at (bad_text k) out.new result }
+    ensures short { result ≤ at + 32 }
 {
     print_number(out, at, &lines::BAD_MAP, k)
 }
@@ -132,7 +135,8 @@ pub fn print_bad(out: &mut [u8], at: usize, k: usize) -> usize
 // Puts the line `engine E`.
 pub fn print_engine(out: &mut [u8], at: usize, engine: u8) -> usize
     requires { at + 28 ≤ length out.old }
-    ensures { Printed out.old at (engine_line engine) out.new result }
+    ensures printed { Printed out.old at (engine_line engine) out.new result }
+    ensures short { result ≤ at + 28 }
 {
     print_number(out, at, &lines::ENGINE, usize::from(engine))
 }
@@ -151,12 +155,13 @@ fn print_distance(out: &mut [u8], at: usize, dist: &[i64], i: usize) -> usize
 // Puts a line `index distance` for each index that the map has.
 pub fn print_distances(out: &mut [u8], at: usize, bound: usize, marks: &[u8], dist: &[i64]) -> usize
     requires { (bound ≤ length marks.now) × (bound ≤ length dist.now) × (at + bound * 43 ≤ length out.old) }
-    ensures { Printed out.old at
+    ensures printed { Printed out.old at
         (distance_lines (present bound marks.now) bound dist.now) out.new result }
+    ensures short { result ≤ at + bound * 43 }
 {
     let mut next = at;
     for i in 0..bound {
-        if net::has_index(bound, marks, i) {
+        if table::is_present(bound, marks, i) {
             next = print_distance(out, next, dist, i);
         }
     }
@@ -183,7 +188,8 @@ pub fn print_end(out: &mut [u8], at: usize) -> usize
 // Puts the line `path i j ..` of the nodes of a path.
 fn print_nodes(out: &mut [u8], at: usize, path: &[u32]) -> usize
     requires { at + length path.now * 21 + 5 ≤ length out.old }
-    ensures { Printed out.old at (line path_text (map index_text path.now)) out.new result }
+    ensures printed { Printed out.old at (line path_text (map index_text path.now)) out.new result }
+    ensures short { result ≤ at + length path.now * 21 + 5 }
 {
     let word = lines::put_bytes(out, at, &lines::PATH);
     let nodes = put_fields(out, word, path);
@@ -213,14 +219,15 @@ pub fn print_rows<E: Entry>(
     requires { (bound ≤ length marks.now)
         × (width (present bound marks.now) bound * width (present bound marks.now) bound ≤ length matrix.now)
         × (at + bound * (width (present bound marks.now) bound * (E.widest + 1) + 25) ≤ length out.old) }
-    ensures { Printed out.old at
+    ensures printed { Printed out.old at
         (row_lines E.text_of (present bound marks.now) bound matrix.now) out.new result }
+    ensures short { result ≤ at + bound * (width (present bound marks.now) bound * (E.widest + 1) + 25) }
 {
     let p = net::count_present(bound, marks);
     let mut next = at;
     let mut rest = matrix;
     for i in 0..bound {
-        if net::has_index(bound, marks, i) {
+        if table::is_present(bound, marks, i) {
             let (row, after) = rest.split_at(p);
             next = print_row(out, next, i, row);
             rest = after;
@@ -230,9 +237,11 @@ pub fn print_rows<E: Entry>(
 }
 
 // Puts the line `cost C`.
+#[tactic(auto, using(crate::proofs::Widths::signed_width))]
 fn print_cost(out: &mut [u8], at: usize, cost: i64) -> usize
     requires { at + 27 ≤ length out.old }
-    ensures { Printed out.old at (line cost_text (signed_text cost ∷ [])) out.new result }
+    ensures printed { Printed out.old at (line cost_text (signed_text cost ∷ [])) out.new result }
+    ensures short { result ≤ at + 27 }
 {
     let word = lines::put_bytes(out, at, &lines::COST);
     let space = lines::put_space(out, word);
@@ -243,7 +252,8 @@ fn print_cost(out: &mut [u8], at: usize, cost: i64) -> usize
 // Puts the lines `cost C` and `path i j ..` of a path of n nodes, or the line `none` where there is no cost.
 pub fn print_path(out: &mut [u8], at: usize, cost: i64, path: &[u32], n: usize) -> usize
     requires { (n ≤ length path.now) × (at + n * 21 + 32 ≤ length out.old) }
-    ensures { Printed out.old at (path_lines cost n path.now) out.new result }
+    ensures printed { Printed out.old at (path_lines cost n path.now) out.new result }
+    ensures short { result ≤ at + n * 21 + 32 }
 {
     if clean::NONE_I64 < cost {
         let next = print_cost(out, at, cost);
@@ -276,12 +286,13 @@ pub fn print_tree(
 ) -> usize
     requires { (bound ≤ length marks.now) × (bound ≤ length dist.now) × (bound ≤ length preds.now)
         × (at + bound * 59 ≤ length out.old) }
-    ensures { Printed out.old at
+    ensures printed { Printed out.old at
         (tree_lines (present bound marks.now) bound dist.now preds.now) out.new result }
+    ensures short { result ≤ at + bound * 59 }
 {
     let mut next = at;
     for i in 0..bound {
-        if net::has_index(bound, marks, i) {
+        if table::is_present(bound, marks, i) {
             next = print_reached(out, next, dist, preds, i);
         }
     }

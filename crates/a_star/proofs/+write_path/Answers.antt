@@ -32,15 +32,15 @@ overflow_add-result t c =
     let long = trail_long c.args.preds.now c.args.source (c.args.left - 1) (get_or c.args.preds.now c.args.v 0) in
     omega (arith, long, some, c.requires.left_in_bounds, c.write_path-n.ensures.value, c.well_formed)
 
-pub returns-clause-value : goal.returns-clause-value
-returns-clause-value t c =
+pub returns-else-v-source-clause-value : goal.returns-else-v-source-clause-value
+returns-else-v-source-clause-value t c =
     let some = back_some c.args.preds.now c.args.source c.args.left c.args.v c.requires.goes_back c.if-v-source.false in
     let e = trail_back c.args.preds.now c.args.source c.args.left c.args.v some c.if-v-source.false in
     let l = trail c.args.preds.now c.args.source (c.args.left - 1) (get_or c.args.preds.now c.args.v 0) in
     omega (arith, ap length e, length-append l (c.args.v ∷ []), c.write_path-n.ensures.value)
 
-pub returns-clause-path_after : goal.returns-clause-path_after
-returns-clause-path_after t c =
+pub returns-else-v-source-clause-path_after : goal.returns-else-v-source-clause-path_after
+returns-else-v-source-clause-path_after t c =
     let some = back_some c.args.preds.now c.args.source c.args.left c.args.v c.requires.goes_back c.if-v-source.false in
     let e = trail_back c.args.preds.now c.args.source c.args.left c.args.v some c.if-v-source.false in
     let l = trail c.args.preds.now c.args.source (c.args.left - 1) (get_or c.args.preds.now c.args.v 0) in

@@ -16,4 +16,4 @@ pub wipe-requires : goal.wipe-requires
 wipe-requires c = can_wipe c.requires c.seek-found.ensures.sought c.most_arcs.ensures
 
 pub returns-clause-solved : goal.returns-clause-solved
-returns-clause-solved c = outcome c.requires c.seek-found.ensures.sought c.answer-given.ensures c.most_arcs.ensures c.wipe.ensures.wiped
+returns-clause-solved c = outcome c.requires c.seek-found.ensures.sought c.answer-given.ensures.read c.most_arcs.ensures c.wipe.ensures.wiped

@@ -2,12 +2,20 @@
 -- Assumes nothing.
 use mathlib.Core.Path.{refl}
 use native.Mathlib.Omega.{arith}
+use Rattle.numbers.specs.Refusal.{number_of}
+use Rattle.table.specs.Links.{present}
+use Rattle.text.specs.Text.{tree_lines}
+use Rattle.answers.proofs.Says.{of_equal}
 use Rattle.answers.proofs.answer_dijkstra_path.Goals as goal
 
-pub say_tree-requires : goal.say_tree-requires
-say_tree-requires c =
-    let p = c.requires in
-    (p.few, p.marked, omega (arith, p.few), omega (arith, p.few), p.room)
-
-pub returns-clause-fact : goal.returns-clause-fact
-returns-clause-fact c = record { text = _; allowed = record { number = _; left = _; promise = c.dijkstra_path_f64-number.ensures; says = refl }; printed = c.say_tree.ensures.printed }
+pub returns-clause-written : goal.returns-clause-written
+returns-clause-written c =
+    let k = c.dijkstra_path_f64-done in
+    let net = c.args.net in
+    record {
+      text = _;
+      allowed = record { number = _; left = _; promise = k.ensures.promise; says = refl };
+      printed =
+          of_equal (number_of k.result) (tree_lines (present net.map.bound net.marks.now) net.map.bound) k.new.memory.dist.now k.new.memory.preds.now
+          c.say_tree.ensures.printed (grind arith) (grind arith);
+    }

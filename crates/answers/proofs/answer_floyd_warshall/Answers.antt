@@ -4,4 +4,4 @@ use mathlib.Core.Path.{refl}
 use Rattle.answers.proofs.answer_floyd_warshall.Goals as goal
 
 pub returns-clause-written : goal.returns-clause-written
-returns-clause-written c = record { text = _; allowed = record { number = _; left = (_, _); promise = c.floyd_warshall-number.ensures; says = refl }; printed = c.say_rows.ensures.printed }
+returns-clause-written c = record { text = _; allowed = record { number = _; left = (_, _); promise = c.floyd_warshall-done.ensures; says = refl }; printed = c.say_rows.ensures.printed }

@@ -4,4 +4,4 @@ use mathlib.Core.Path.{refl}
 use Rattle.answers.proofs.answer_hops.Goals as goal
 
 pub returns-clause-written : goal.returns-clause-written
-returns-clause-written c = record { text = _; allowed = record { number = _; left = (_, _); promise = c.hops-counted.ensures; says = refl }; printed = c.say_hops.ensures.printed }
+returns-clause-written g c = record { text = _; allowed = record { number = _; left = (_, _); promise = c.hops-counted.ensures.promise; says = refl }; printed = c.say_rows.ensures.printed }

@@ -8,14 +8,8 @@ use Rattle.lines.proofs.Pages.{printed_four}
 use Rattle.text.proofs.Widths.{signed_width}
 use Rattle.text.proofs.print_cost.Goals as goal
 
-pub put_signed-number-requires : goal.put_signed-number-requires
-put_signed-number-requires c = omega (arith, signed_width (to_z w64 (of_z w64 c.args.cost)))
-
-pub put_newline-requires : goal.put_newline-requires
-put_newline-requires c = omega (arith, signed_width (to_z w64 (of_z w64 c.args.cost)))
-
-pub returns : goal.returns
-returns c =
+pub returns-clause-printed : goal.returns-clause-printed
+returns-clause-printed c =
     let w = signed_width (to_z w64 (of_z w64 c.args.cost)) in
     rw (to_z-of_z w64 c.args.cost c.ranges.cost) at
     (printed_four c.put_bytes-word.ensures c.put_space-space.ensures c.put_signed-number.ensures c.put_newline.ensures (omega (arith, w)))

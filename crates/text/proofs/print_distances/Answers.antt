@@ -5,7 +5,7 @@ use Rattle.text.specs.Text.{distance_line}
 use Rattle.text.proofs.Lines.{listing_skip, listing_more, each_yes, each_no}
 use mathlib.Core.Path.{sym, ◌∙◌}
 use Rattle.text.proofs.print_distances.Goals as goal
-use Rattle.text.proofs.print_distances.Goals.{then-has_index, else-has_index}
+use Rattle.text.proofs.print_distances.Goals.{then-is_present, else-is_present}
 
 pub loop-i-preserved : goal.loop-i-preserved
 loop-i-preserved c =
@@ -14,9 +14,9 @@ loop-i-preserved c =
     let f = distance_line v.dist.now in
     let l = c.loop-i in
     let h = c.loop-i-test.true in
-    let e = c.has_index.ensures in
-    elim c.if-has_index.branch [
-      | then-has_index w ↦ let o = w.print_distance-next.ensures in
-          rw (w.out-is, w.next-is) (listing_more l.invariant h (each_yes has f l.i (sym e ∙ w.if-has_index.true)) o.printed o.short)
-      | else-has_index w ↦ rw (w.out-is, w.next-is) (listing_skip l.invariant h (each_no has f l.i (sym e ∙ w.if-has_index.false)))
+    let e = c.is_present.ensures in
+    elim c.if-is_present.branch [
+      | then-is_present w ↦ let o = w.print_distance-next.ensures in
+          rw (w.out-is, w.next-is) (listing_more l.invariant h (each_yes has f l.i (sym e ∙ w.if-is_present.true)) o.printed o.short)
+      | else-is_present w ↦ rw (w.out-is, w.next-is) (listing_skip l.invariant h (each_no has f l.i (sym e ∙ w.if-is_present.false)))
     ]

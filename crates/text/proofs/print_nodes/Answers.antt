@@ -8,7 +8,7 @@ use Rattle.text.specs.Text.{index_text}
 use Rattle.text.proofs.Lines.{fields_split}
 use Rattle.text.proofs.print_nodes.Goals as goal
 
-pub returns : goal.returns
-returns c =
+pub returns-clause-printed : goal.returns-clause-printed
+returns-clause-printed c =
     rw (fields_split path_text (map index_text c.args.path.now))
     (printed_three c.put_bytes-word.ensures c.put_fields-nodes.ensures.printed c.put_newline.ensures (omega arith))

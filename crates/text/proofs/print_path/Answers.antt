@@ -11,32 +11,18 @@ use lib.ListN.{take, length-take}
 use Rattle.lines.specs.Text.{cost_text, path_text, signed_text}
 use Rattle.text.specs.Text.{index_text, line, path_lines}
 use lib.Signed.{lt_z}
-use mir.Val.{to_z, of_z}
 use mir.ValLaws.{to_z-of_z}
 use mir.Syntax.{w64}
 use Rattle.clean.specs.None.{none_i64}
-use Rattle.lines.proofs.Places.{printed_more}
-use Rattle.text.proofs.Widths.{cost_line_width}
+use Rattle.lines.proofs.Pages.{printed_two}
 use Rattle.text.proofs.print_path.Goals as goal
 
 path_some : (c : ℤ) (n : ℕ) (path : List ℕ) → lt_z none_i64 c ≡ true → path_lines c n path ≡ line cost_text (signed_text c ∷ []) ++ line path_text (map index_text (take n path))
 path_some c n path h = simp (h)
 
-pub print_nodes-requires : goal.print_nodes-requires
-print_nodes-requires c =
-    omega (
-      arith,
-      length-take c.args.n c.args.path.now,
-      c.print_cost-next.ensures.ends,
-      c.print_cost-next.auto.out,
-      cost_line_width (to_z w64 (of_z w64 c.args.cost)),
-      c.requires,
-    )
-
-pub returns-then-cost-gt-NONE_I64 : goal.returns-then-cost-gt-NONE_I64
-returns-then-cost-gt-NONE_I64 c =
+pub returns-then-cost-gt-NONE_I64-clause-printed : goal.returns-then-cost-gt-NONE_I64-clause-printed
+returns-then-cost-gt-NONE_I64-clause-printed c =
     let v = c.args in
     let e = to_z-of_z w64 v.cost c.ranges.cost in
-    let w = cost_line_width v.cost in
     rw (path_some v.cost v.n v.path.now (ap (lt_z none_i64) (sym e) ∙ c.if-cost-gt-NONE_I64.true))
-    (printed_more v.out.now v.at _ (omega (arith, w, c.requires.1)) _ _ _ _ _ (rw e at c.print_cost-next.ensures) c.print_nodes.ensures)
+    (printed_two (rw e at c.print_cost-next.ensures.printed) c.print_nodes.ensures.printed (omega (arith, length-take v.n v.path.now)))

@@ -1,6 +1,0 @@
--- The entries left fall.
-use Rattle.std.proofs.Common.{length, ◌-◌}
-use Rattle.replay.proofs.ints.read_guess.Given as goal
-
-abbrev pub decreases-loop-i : goal.decreases-loop-i
-decreases-loop-i l = length l.initial.guess - l.i

@@ -1,6 +1,0 @@
--- The places left fall.
-use Rattle.std.proofs.Common.{length, ◌-◌}
-use Rattle.replay.proofs.reads.next_line.Given as goal
-
-abbrev pub decreases-loop-i : goal.decreases-loop-i
-decreases-loop-i l = length l.list - l.i
