@@ -19,7 +19,6 @@ ghost use Rattle.more.specs.More as more;
 
 pub mod deep;
 mod deeper;
-pub mod other;
 
 pub struct Pair {
     pub first: usize,
@@ -336,7 +335,7 @@ count_after n (Err t) = n
     "crates/more/specs/Same.antt": "-- Another.\nuse Rattle.std.specs.Prelude.{ℕ, Result}\n\nabbrev pub number_in : Result ℕ ℕ → ℕ\nnumber_in r = 0\n",
     VIEWS: """-- What tells all.
 use Rattle.std.proofs.Common.{◌≡◌, List, ℕ}
-use Rattle.std.specs.Prelude.{Result as Given, Option}
+use Rattle.std.specs.Prelude.{Result, Option}
 use Rattle.small.specs.Sums.{Told}
 use Rattle.more.specs.declared.Trouble as code
 use Rattle.more.specs.Holds.{Swept, Both, All, number_in, number_after}
@@ -351,10 +350,10 @@ all_one p q = p
 pub answered_one : {n r s : ℕ} {b x y : List ℕ} → Told n b x r → Told n b y s → (x ≡ y) × (r ≡ s)
 answered_one p q = p
 
-pub number_one : (x y : Given Unit code.Trouble) → number_in x ≡ number_in y → x ≡ y
+pub number_one : (x y : Result Unit code.Trouble) → number_in x ≡ number_in y → x ≡ y
 number_one x y e = e
 
-pub both_one : (n m : ℕ) (x y : Given ℕ code.Trouble) →
+pub both_one : (n m : ℕ) (x y : Result ℕ code.Trouble) →
     number_after n x ≡ number_after n y →
     (holds.count_after m x ≡ holds.count_after m y) → x ≡ y
 both_one n m x y e f = f
@@ -417,9 +416,9 @@ NEW = [
     ("pub fn fresh(out: & mut [u8])", "small::fresh is not settled"),
     ("pub fn fresh<'a>(n: usize, out: &'a mut u8)", "small::fresh is not settled"),
     ("pub fn fresh(out: [&mut u8; 2])", "small::fresh is not settled"),
-    ("pub struct Held<'a> {\n    out: &'a mut [u8],\n}\n\npub fn fresh<'a>(held: Held<'a>)", "small::fresh is not settled"),
-    ("struct Held<'a> {\n    out: &'a mut [u8],\n}\n\npub struct Outer<'a> {\n    held: Held<'a>,\n}\n\npub fn fresh<'a>(outer: Outer<'a>)", "small::fresh is not settled"),
-    ("pub struct Held<'a>(&'a mut [u8]);\n\npub fn fresh<'a>(held: Held<'a>)", "small::fresh is not settled"),
+    ("pub struct Slot<'a> {\n    out: &'a mut [u8],\n}\n\npub fn fresh<'a>(slot: Slot<'a>)", "small::fresh is not settled"),
+    ("struct Slot<'a> {\n    out: &'a mut [u8],\n}\n\npub struct Outer<'a> {\n    slot: Slot<'a>,\n}\n\npub fn fresh<'a>(outer: Outer<'a>)", "small::fresh is not settled"),
+    ("pub struct Slot<'a>(&'a mut [u8]);\n\npub fn fresh<'a>(slot: Slot<'a>)", "small::fresh is not settled"),
     ("pub fn fresh(n: usize) -> usize\n    // ensures { result ≡ n }", "small::fresh is not settled"),
     ("pub fn fresh(n: usize) -> usize\n    ensures { _ ≡ n }", "small::fresh is not settled"),
     ("pub fn fresh(n: usize) -> Count\n    ensures { result.number ≡ n }", "small::fresh is not settled"),
@@ -516,45 +515,46 @@ NO_LAW = [
 ]
 WRITTEN = "{at stop stop' : ℕ} → ((t t' : List ℕ) → P t → P t' → t ≡ t')"
 # laws that do not say of two results that they are one where the views of them are
-NUMBER = "(x y : Given Unit code.Trouble) → number_in x ≡ number_in y → x ≡ y"
-BOTH = """(n m : ℕ) (x y : Given ℕ code.Trouble) →
+NUMBER = "(x y : Result Unit code.Trouble) → number_in x ≡ number_in y → x ≡ y"
+BOTH = """(n m : ℕ) (x y : Result ℕ code.Trouble) →
     number_after n x ≡ number_after n y →
     (holds.count_after m x ≡ holds.count_after m y) →"""
 NO_VIEWS = [
-    (NUMBER, "(x y : Given Unit code.Trouble) → number_in x ≡ number_in x → x ≡ y"),
-    (NUMBER, "(x y : Given Unit code.Trouble) → number_in x ≤ number_in y → x ≡ y"),
-    (NUMBER, "(x y : Given Unit code.Trouble) → number_in x ≡ number_in y ≡ 0 → x ≡ y"),
-    (NUMBER, "(x y : Given Unit code.Trouble) → number_in x ≡ number_in y → x ≡ x"),
-    (NUMBER, "(x y : Given Unit code.Trouble) → number_in x ≡ number_in y → x ≤ y"),
-    (NUMBER, "(x y : Given Unit code.Trouble) → number_in x ≡ number_in y → n ≤ 3 → x ≡ y"),
-    (NUMBER, "(x y : Given Unit code.Trouble) → x ≡ y → x ≡ y"),
-    (NUMBER, "(x y : Given Unit code.Trouble) → x ≡ y"),
-    (NUMBER, "(x y : Given Unit code.Trouble) → number_in (turned x) ≡ number_in (turned y) → x ≡ y"),
-    (NUMBER, "(x y : Given Unit code.Trouble) → number_in (turned x) ≡ number_in y → x ≡ y"),
-    (NUMBER, "(x y : Given Unit code.Trouble) → other_in x ≡ other_in y → x ≡ y"),
-    (NUMBER, "(x y : Given Unit code.Trouble) (never : ⊥) → number_in x ≡ number_in y → x ≡ y"),
-    (NUMBER, "(never : ⊥) (x y : Given Unit code.Trouble) → number_in x ≡ number_in y → x ≡ y"),
-    (NUMBER, "{never : ⊥} → (x y : Given Unit code.Trouble) → number_in x ≡ number_in y → x ≡ y"),
-    (NUMBER, "(x y : Given ℕ code.Trouble) → number_in x ≡ number_in y → x ≡ y"),
+    (NUMBER, "(x y : Result Unit code.Trouble) → number_in x ≡ number_in x → x ≡ y"),
+    (NUMBER, "(x y : Result Unit code.Trouble) → number_in x ≤ number_in y → x ≡ y"),
+    (NUMBER, "(x y : Result Unit code.Trouble) → number_in x ≡ number_in y ≡ 0 → x ≡ y"),
+    (NUMBER, "(x y : Result Unit code.Trouble) → number_in x ≡ number_in y → x ≡ x"),
+    (NUMBER, "(x y : Result Unit code.Trouble) → number_in x ≡ number_in y → x ≤ y"),
+    (NUMBER, "(x y : Result Unit code.Trouble) → number_in x ≡ number_in y → n ≤ 3 → x ≡ y"),
+    (NUMBER, "(x y : Result Unit code.Trouble) → x ≡ y → x ≡ y"),
+    (NUMBER, "(x y : Result Unit code.Trouble) → x ≡ y"),
+    (NUMBER, "(x y : Result Unit code.Trouble) → number_in (turned x) ≡ number_in (turned y) → x ≡ y"),
+    (NUMBER, "(x y : Result Unit code.Trouble) → number_in (turned x) ≡ number_in y → x ≡ y"),
+    (NUMBER, "(x y : Result Unit code.Trouble) → other_in x ≡ other_in y → x ≡ y"),
+    (NUMBER, "(x y : Result Unit code.Trouble) (never : ⊥) → number_in x ≡ number_in y → x ≡ y"),
+    (NUMBER, "(never : ⊥) (x y : Result Unit code.Trouble) → number_in x ≡ number_in y → x ≡ y"),
+    (NUMBER, "{never : ⊥} → (x y : Result Unit code.Trouble) → number_in x ≡ number_in y → x ≡ y"),
+    (NUMBER, "(x y : Result ℕ code.Trouble) → number_in x ≡ number_in y → x ≡ y"),
     (NUMBER, "(x y : Option Unit code.Trouble) → number_in x ≡ number_in y → x ≡ y"),
-    (NUMBER, "(x : Given Unit code.Trouble) (y : Given ℕ code.Trouble) → number_in x ≡ number_in y → x ≡ y"),
-    (NUMBER, "(x : Given ℕ code.Trouble) (y : Given Unit code.Trouble) → number_in x ≡ number_in y → x ≡ y"),
-    (NUMBER, "{A : Type 0} → (x y : Given A code.Trouble) → number_in x ≡ number_in y → x ≡ y"),
+    (NUMBER, "(x : Result Unit code.Trouble) (y : Result ℕ code.Trouble) → number_in x ≡ number_in y → x ≡ y"),
+    (NUMBER, "(x : Result ℕ code.Trouble) (y : Result Unit code.Trouble) → number_in x ≡ number_in y → x ≡ y"),
+    (NUMBER, "{A : Type 0} → (x y : Result A code.Trouble) → number_in x ≡ number_in y → x ≡ y"),
     ("number_one : (x y", "number_one {never : ⊥} : (x y"),
     ("pub number_one", "module _ (never : ⊥) where\n  pub number_one"),
     ("Common.{◌≡◌, List, ℕ}", "Common.{◌≢◌ as ◌≡◌, List, ℕ}"),
+    ("{Result, Option}", "{Option as Result}"),
     ("specs.Holds.{Swept, Both, All, number_in, ", "specs.Same.{number_in}\nuse Rattle.more.specs.Holds.{Swept, Both, All, "),
 ]
 NO_BOTH = [
-    "(n : ℕ) (x y : Given ℕ code.Trouble) → number_after n x ≡ number_after n y → holds.count_after n x ≡ holds.count_after n y →",
-    "(n : ℕ) (x y : Given ℕ code.Trouble) → number_after n x ≡ number_after n y → holds.count_after 0 x ≡ holds.count_after 0 y →",
-    "(n : ℕ) (x y : Given ℕ code.Trouble) → number_after n x ≡ number_after n y → holds.count_after (number_after n x) x ≡ holds.count_after (number_after n x) y →",
-    "(n : ℕ) (x y : Given ℕ code.Trouble) → number_after n x ≡ number_after n y → holds.count_after x x ≡ holds.count_after x y →",
-    "(n m : ℕ) (x y : Given ℕ code.Trouble) → number_after n x ≡ number_after n y → holds.count_after x m ≡ holds.count_after y m →",
-    "(n m : ℕ) (x y : Given ℕ code.Trouble) → number_after n x ≡ number_after n y → holds.count_after m x ≡ holds.count_after n y →",
-    "(n m : ℕ) (x y : Given ℕ code.Trouble) → number_after n x ≡ number_after n y → holds.count_after m x ≡ number_after m y →",
-    "(n : ℕ) (x y : Given ℕ code.Trouble) → number_after n x ≡ number_after n y →",
-    "(m : ℕ) (x y : Given ℕ code.Trouble) → holds.count_after m x ≡ holds.count_after m y →",
+    "(n : ℕ) (x y : Result ℕ code.Trouble) → number_after n x ≡ number_after n y → holds.count_after n x ≡ holds.count_after n y →",
+    "(n : ℕ) (x y : Result ℕ code.Trouble) → number_after n x ≡ number_after n y → holds.count_after 0 x ≡ holds.count_after 0 y →",
+    "(n : ℕ) (x y : Result ℕ code.Trouble) → number_after n x ≡ number_after n y → holds.count_after (turned x) x ≡ holds.count_after (turned x) y →",
+    "(n : ℕ) (x y : Result ℕ code.Trouble) → number_after n x ≡ number_after n y → holds.count_after x x ≡ holds.count_after x y →",
+    "(n m : ℕ) (x y : Result ℕ code.Trouble) → number_after n x ≡ number_after n y → holds.count_after x m ≡ holds.count_after y m →",
+    "(n m : ℕ) (x y : Result ℕ code.Trouble) → number_after n x ≡ number_after n y → holds.count_after m x ≡ holds.count_after n y →",
+    "(n m : ℕ) (x y : Result ℕ code.Trouble) → number_after n x ≡ number_after n y → holds.count_after m x ≡ number_after m y →",
+    "(n : ℕ) (x y : Result ℕ code.Trouble) → number_after n x ≡ number_after n y →",
+    "(m : ℕ) (x y : Result ℕ code.Trouble) → holds.count_after m x ≡ holds.count_after m y →",
 ]
 VIEW = "| `Result<(), Trouble>` | `number_in` | `more/specs/Holds.antt` | `more/proofs/Views.antt` `number_one` |"
 NUMBERED, COUNTED = "number_in: number_one does not say that they tell all of a Result<(), Trouble>", "does not say that they tell all of a Result<usize, Trouble>"
@@ -768,6 +768,7 @@ SAME = [
     (OTHER, "(&mut self, n: usize)", "(self: &'a mut Self, n: usize)"),
     (OTHER, "(&self, n: usize)", "(self: &Self, n: usize)"),
     (OTHER, "-> Result<usize, other::Trouble>", "-> std::Result<usize, Trouble>"),
+    (VIEWS, "pub number_one : (x y : Result ", "use Rattle.std.specs.Prelude.{Result as Given}\n\npub number_one : (x y : Given "),
     (HOLDS, "held_in h = both_of h.out.now h.rest.now", "held_in h = record { out = h.out.now; rest = h.rest.now }"),
     (HOLDS, "lists = lists_in l; held = both_of h.out.now h.rest.now", "lists = both_of l.out.now l.rest.now; held = held_in h"),
 ]
