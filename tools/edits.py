@@ -5,6 +5,9 @@ import re
 
 from sources import File, code_of, read, without_comments
 
+# the kinds of costs, each with what it has of its own, and the type that a neighbour list has for its costs
+KINDS = {"net::Floats": ("bits", "u64"), "net::Ints": ("costs", "i64")}
+
 
 class Edit:
     """One replacement in a crate: the function whose answer it makes wrong, with an input, the right and the wrong answer; or the definition that it makes wrong."""
@@ -64,6 +67,13 @@ class Edit:
     def stop(self):
         """What stops the edited program, in the interpreter's word, where that stands in the place of a wrong answer."""
         return self.wrong[0][1] if [name for name, _ in self.wrong] == ["stops"] else None
+
+    def types(self, parameters):
+        """What type parameters, and the types that belong to them, are for it: as its inputs name them, C, the kind of costs, by what is given of its own."""
+        given = dict(self.input)
+        kind = next((k for k, (field, _) in KINDS.items() if field in given), "net::Ints")
+        told = dict({"C": kind, "C::Weight": KINDS[kind][1]}, **given)
+        return {name: value for name, value in told.items() if name.partition("::")[0] in parameters}
 
     def applied(self, text):
         """A text with the replacement, where nothing before it was changed."""

@@ -24,13 +24,15 @@ def flat(text):
 
 
 class Function:
-    """A public function: its name with crate and module, the lent slices it may write, its result and its contract. `found` are the sources of its crate,
-    `holders` the structs that hold something lent that may be written, `held` the fields of such a struct, by the parameter that is one."""
+    """A public function: its name with crate and module, the lent slices it may write, its result and its contract. `texts` are the sources of every crate,
+    `holders` the structs that hold something lent that may be written, `types` its type parameters, those of its block among them. `held` has for each
+    parameter that is a lent struct what tells all of it."""
 
-    def __init__(self, name, file, line, params, result, clauses, head, found, holders, held):
+    def __init__(self, name, file, line, params, result, clauses, head, texts, holders, types):
         self.crate, self.name, self.file, self.line = name.split("::")[0], name, file, line
-        self.params, self.result, self.head, self.held = params, result, head, held
-        self.fields = struct_fields(found, result)
+        self.params, self.result, self.head, self.types = params, result, head, types
+        self.fields = struct_fields(texts[self.crate], result)
+        self.held = {p: lent_fields(texts, self.crate, kind) for p, kind in params if LENT.match(kind.strip())}
         self.written = [p for p, kind in params if LENT.search(kind) or not SHARED.match(kind) and holders & set(re.findall(r"\w+", kind))]
         self.ghosts = [name for word, name, _ in clauses if word == "ghost"]
         self.requires = [text for word, _, text in clauses if word.startswith("requires")]
@@ -130,7 +132,10 @@ def code_of(path, text):
 
 # a clause of a contract: its word, its name where it has one
 CLAUSE = re.compile(r"\s*((?:requires|ensures)\*?|ghost)(?:\s+([^\s{}:*]+):?)?\s*\{")
-FN = re.compile(r'\bpub\s+(?:[\w"]+\s+)*fn\s+(\w+)\s*(<[^>]*>)?\s*\(')
+# what stands in `<..>` behind a name, with more of it inside, three deep
+ANGLE = functools.reduce(lambda inner, _: r"<(?:->|[^<>]|%s)*>" % inner, range(3), r"<(?:->|[^<>])*>")
+FN = re.compile(r'\bpub\s+(?:[\w"]+\s+)*fn\s+(\w+)\s*(' + ANGLE + r")?\s*\(")
+IMPL = re.compile(r"(?m)^impl\b\s*(" + ANGLE + r")?[^{]*?(\w+)(" + ANGLE + r")?\s*(?:\bwhere\b[^{]*)?\{")
 GHOST = re.compile(r"\s*(?:pub\s+)?ghost\b")
 LENT = re.compile(r"&\s*('\w+\s+)?mut\b")
 SHARED = re.compile(r"\s*&")
@@ -192,20 +197,21 @@ def declaring(texts, crate, kind):
     """The sources of the crate that declares the struct of a type: that which its path or an import names, else the crate itself, and the struct's name."""
     path = re.sub(r"<.*|&\s*|'\w+\s*|\bmut\b", "", kind).strip().split("::")
     for text in texts[crate].values() if len(path) == 1 else []:
-        m = re.search(r"(?m)^use (\w+)::(?:" + path[0] + r"|\{[^}]*\b" + path[0] + r"\b[^}]*\});", text)
+        name = re.escape(path[0])
+        m = re.search(r"(?m)^use (\w+)::(?:" + name + r"|\{[^}]*\b" + name + r"\b[^}]*\});", text)
         path = [m.group(1)] + path if m and len(path) == 1 else path
     return texts.get(path[0] if len(path) > 1 else crate, {}), path[-1]
 
 
 def lent_fields(texts, crate, kind):
-    """The fields of a struct that hold something lent that may be written, for a type that is such a struct."""
+    """What tells all of a struct, for a type that is one: of each field that is lent what it holds, and each other field."""
     found, name = declaring(texts, crate, kind)
     for text in found.values():
         m = re.search(r"\bstruct\s+" + re.escape(name) + r"\s*(<[^>]*>)?\s*\{", text) if name else None
         if m:
             body = text[m.end():closing(text, m.end() - 1)]
             fields = [f.partition(":") for f in split_types(body) if ":" in f and not GHOST.match(f)]
-            return [head.split()[-1] for head, _, of in fields if LENT.search(of)]
+            return [head.split()[-1] + (".now" if LENT.match(of.strip()) else "") for head, _, of in fields]
     return []
 
 
@@ -238,15 +244,21 @@ def function_at(root, place, file, texts, m, holders):
         clauses.append((word.group(1), word.group(2), text[opened + 1:end]))
         head.append(flat(text[at:end + 1]))
         at = end + 1
-    owner = ""
-    for i in re.finditer(r"(?m)^impl\b[^{]*?(\w+)(?:<[^>]*>)?\s*\{", text):
+    owner, types = "", parameters(m.group(2))
+    for i in IMPL.finditer(text):
         if i.start() < m.start() < closing(text, i.end() - 1):
-            owner = i.group(1) + "::"
+            owner, types = i.group(2) + "::", parameters(i.group(1)) + types
+            # what `self` is, is told by the block
+            block = i.group(2) + (i.group(3) or "")
+            params = [(p, re.sub(r"\b[sS]elf\b(?!\s*::)", lambda _, kind=block: kind, kind)) for p, kind in params]
     line = text.count("\n", 0, m.start()) + 1
-    # what `self` is, is told by the block
-    params = [(p, re.sub(r"\bself\b", owner[:-2], kind) if p == "self" else kind) for p, kind in params]
-    held = {p: lent_fields(texts, place.split("::")[0], kind) for p, kind in params if LENT.search(kind)}
-    return Function(place + "::" + owner + m.group(1), os.path.relpath(file, root), line, params, result, clauses, head, found, holders, held)
+    return Function(place + "::" + owner + m.group(1), os.path.relpath(file, root), line, params, result, clauses, head, texts, holders, types)
+
+
+def parameters(angle):
+    """The type parameters among those in `<..>`, which may be none."""
+    named = [x.partition(":")[0].split() for x in split_types((angle or "<>")[1:-1])]
+    return [name[-1] for name in named if name and not name[0].startswith("'")]
 
 
 def struct_fields(found, name):
@@ -256,7 +268,7 @@ def struct_fields(found, name):
         m = re.search(r"\bstruct\s+" + re.escape(name) + r"\s*(<[^>]*>)?\s*\{", text)
         if m:
             body = text[m.end():closing(text, m.end() - 1)]
-            return [f.split(":")[0].split()[-1] for f in split_top(body, ",") if ":" in f and not GHOST.match(f)]
+            return [f.split(":")[0].split()[-1] for f in split_types(body) if ":" in f and not GHOST.match(f)]
     return None
 
 

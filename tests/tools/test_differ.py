@@ -82,6 +82,9 @@ VALUES = [
     ("none", "u64", ["13830554455654793216"]),
     ("none", "u8", ["none"]),
     ("One true", "Sign", ["One", "true"]),
+    ("ok 1_0 some 0x2", "Result", ["ok", "10", "some", "2"]),
+    ("refused 8 2", "Result", ["refused", "8", "2"]),
+    ("none", "Option", ["none"]),
     ("", "u8", []),
 ]
 
@@ -128,6 +131,311 @@ SIGN_SHOWN = """    let pair: [i64; 2] = [clean::NONE_I64, 3];
     put_u16s(host, &out, 2)?;
     print!(host; "\\n")?;
 """
+
+# crates of structs of what is lent, of one for several types, and of answers that may be none
+LENT = {
+    "crates.txt": "even:\nnet:\nsmall: even net\n",
+    "crates/even/src/lib.rt": """pub struct Held<'a, A: Copy, B> {
+    pub out: &'a mut [A],
+    pub pair: even::Two<u8, even::Two<u8, B>>,
+}
+""",
+    "crates/net/src/lib.rt": """pub struct Ints<'a> {
+    pub costs: &'a [i32],
+}
+
+pub struct Floats<'a> {
+    pub bits: &'a [u64],
+    pub opens: &'a [u8],
+}
+
+pub struct Lent<'a, C> {
+    pub count: usize,
+    pub from: &'a [u16],
+    pub costs: C,
+}
+""",
+    LIB: """use even::{Held, Two};
+
+pub enum Refusal {
+    Full,
+}
+
+pub struct Bad {
+    pub takes: usize,
+    pub at: u16,
+}
+
+pub struct Place {
+    pub at: usize,
+    ghost low: { at ≤ 9 },
+    pub fresh: bool,
+}
+
+// One of its fields has the name that it has as a parameter.
+pub struct Rows<'a, W> {
+    pub starts: &'a mut [usize],
+    ghost long: { length rows ≤ 9 },
+    pub rows: &'a mut [W],
+}
+
+impl<'a, W: Copy> Rows<'a, W> {
+    pub fn wipe(&mut self, zero: W) -> Option<usize>
+    {
+        None
+    }
+
+    pub fn is_long(&self, n: usize) -> bool
+    {
+        false
+    }
+}
+
+pub struct Pile<'a, C> {
+    pub costs: C,
+    pub heights: &'a mut [C::Weight],
+}
+
+impl<'a, C: Costs> Pile<'a, C> {
+    pub fn rise(self)
+    {
+    }
+}
+
+pub fn look<C: Costs, K>(net: net::Lent<C>, held: &Held<C::Weight, K>, rows: &mut Rows<'_, K>, key: K) -> Result<Place, Refusal>
+{
+    Err(Refusal::Full)
+}
+
+pub fn fill<T: Into<Two<u8, T>>>(list: &mut [T], x: T) -> Result<Option<i64>, Bad>
+{
+    Ok(None)
+}
+
+pub fn done(n: usize) -> std::Result<(), Refusal>
+{
+    Ok(())
+}
+
+pub fn odd(n: usize) -> Option<Refusal>
+{
+    None
+}
+
+pub fn twice(rows: &mut Rows<'_, u8>, starts: &[u8])
+{
+}
+""",
+}
+LOOK = """input: count = 1
+input: from = [2]
+input: costs = [4, 3]
+input: out = [none]
+input: pair = even::two()
+input: K = u16
+input: rows = [4; 2]
+input: key = 5
+right: result = ok 3 true
+right: rows = 4 ..
+right: starts = 7 7 ..
+wrong: result = refused 8
+wrong: rows = 5 ..
+wrong: starts = 7 8 ..
+"""
+# a function, the inputs and answers of an edit of it, the call that is made of them, how its answers are printed, and both answers
+LENT_SHOWN = [
+    ("look", LOOK, """    let count = 1;
+    let from: [u16; 1] = [2];
+    let costs: [i32; 2] = [4, 3];
+    let the_costs = net::Ints { costs: &costs };
+    let the_net = net::Lent { count: count, from: &from, costs: the_costs };
+    let mut out: [i64; 1] = [clean::NONE_I64];
+    let pair = even::two();
+    let the_held = even::Held { out: &mut out, pair: pair };
+    let mut starts: [usize; 40] = [7; 40];
+    let mut rows: [u16; 2] = [4; 2];
+    let mut the_rows = small::Rows { starts: &mut starts, rows: &mut rows };
+    let key = 5;
+    let result = small::look(the_net, &the_held, &mut the_rows, key);
+""", """    print!(host; "result =")?;
+    match result {
+        Ok(x) => {
+            print!(host; " ok")?;
+            put_usize(host, x.at)?;
+            put_bool(host, x.fresh)?;
+        }
+        Err(e) => print!(host; " refused {}", e.number())?,
+    }
+    print!(host; "\\n")?;
+    print!(host; "rows =")?;
+    put_u16s(host, &rows, 1)?;
+    print!(host; "\\n")?;
+    print!(host; "starts =")?;
+    put_usizes(host, &starts, 2)?;
+    print!(host; "\\n")?;
+""", "result = ok 3 true\nrows = 4\nstarts = 7 7\n", "result = refused 8\nrows = 5\nstarts = 7 8\n"),
+    ("look", """input: net = net::none()
+input: held = even::held()
+input: C::Weight = u8
+input: key = 5
+right: starts = 4
+wrong: starts = 5
+""", """    let net = net::none();
+    let held = even::held();
+    let mut starts: [usize; 40] = [7; 40];
+    let mut rows = [7; 40];
+    let mut the_rows = small::Rows { starts: &mut starts, rows: &mut rows };
+    let key = 5;
+    let result = small::look(net, held, &mut the_rows, key);
+""", """    print!(host; "starts =")?;
+    put_usizes(host, &starts, usize::MAX)?;
+    print!(host; "\\n")?;
+""", "starts = 4\n", "starts = 5\n"),
+    ("look", """input: count = 1
+input: from = [2]
+input: bits = [none]
+input: opens = [1]
+input: out = [none, 2]
+input: pair = even::two()
+input: K = u8
+input: key = 5
+right: rows = 3
+wrong: rows = 4
+""", """    let count = 1;
+    let from: [u16; 1] = [2];
+    let bits: [u64; 1] = [clean::NONE_F64];
+    let opens: [u8; 1] = [1];
+    let the_costs = net::Floats { bits: &bits, opens: &opens };
+    let the_net = net::Lent { count: count, from: &from, costs: the_costs };
+    let mut out: [u64; 2] = [clean::NONE_F64, 2];
+    let pair = even::two();
+    let the_held = even::Held { out: &mut out, pair: pair };
+    let mut starts: [usize; 40] = [7; 40];
+    let mut rows: [u8; 40] = [7; 40];
+    let mut the_rows = small::Rows { starts: &mut starts, rows: &mut rows };
+    let key = 5;
+    let result = small::look(the_net, &the_held, &mut the_rows, key);
+""", """    print!(host; "rows =")?;
+    put_u8s(host, &rows, usize::MAX)?;
+    print!(host; "\\n")?;
+""", "rows = 3\n", "rows = 4\n"),
+    ("Rows::wipe", """input: W = u32
+input: zero = clean::NONE_U32
+right: result = some 3
+right: rows = none 7 ..
+wrong: result = none
+wrong: rows = 7 7 ..
+""", """    let mut starts: [usize; 40] = [7; 40];
+    let mut rows: [u32; 40] = [7; 40];
+    let mut the_self = small::Rows { starts: &mut starts, rows: &mut rows };
+    let zero = clean::NONE_U32;
+    let result = small::Rows::wipe(&mut the_self, zero);
+""", """    print!(host; "result =")?;
+    match result {
+        Some(x) => {
+            print!(host; " some")?;
+            put_usize(host, x)?;
+        }
+        None => print!(host; " none")?,
+    }
+    print!(host; "\\n")?;
+    print!(host; "rows =")?;
+    put_u32s(host, &rows, 2)?;
+    print!(host; "\\n")?;
+""", "result = some 3\nrows = 4294967295 7\n", "result = none\nrows = 7 7\n"),
+    ("Rows::is_long", """input: W = i64
+input: starts = [1]
+input: rows = [none]
+input: n = 5
+right: result = true
+wrong: result = false
+""", """    let mut starts: [usize; 1] = [1];
+    let mut rows: [i64; 1] = [clean::NONE_I64];
+    let the_self = small::Rows { starts: &mut starts, rows: &mut rows };
+    let n = 5;
+    let result = small::Rows::is_long(&the_self, n);
+""", """    print!(host; "result =")?;
+    put_bool(host, result)?;
+    print!(host; "\\n")?;
+""", "result = true\n", "result = false\n"),
+    ("Pile::rise", """input: bits = [2]
+input: opens = [1]
+right: heights = none ..
+wrong: heights = 3 ..
+""", """    let bits: [u64; 1] = [2];
+    let opens: [u8; 1] = [1];
+    let the_costs = net::Floats { bits: &bits, opens: &opens };
+    let mut heights: [u64; 40] = [7; 40];
+    let the_self = small::Pile { costs: the_costs, heights: &mut heights };
+    small::Pile::rise(the_self);
+""", """    print!(host; "heights =")?;
+    put_u64s(host, &heights, 1)?;
+    print!(host; "\\n")?;
+""", "heights = 13830554455654793216\n", "heights = 3\n"),
+    ("fill", """input: list = [3u8, 4]
+input: x = 5
+right: result = ok some 3
+wrong: result = refused 2 5
+""", """    let mut list = [3u8, 4];
+    let x = 5;
+    let result = small::fill(&mut list, x);
+""", """    print!(host; "result =")?;
+    match result {
+        Ok(x) => {
+            print!(host; " ok")?;
+            match x {
+                Some(x) => {
+                    print!(host; " some")?;
+                    put_i64(host, x)?;
+                }
+                None => print!(host; " none")?,
+            }
+        }
+        Err(e) => print!(host; " refused {} {}", e.takes, e.at)?,
+    }
+    print!(host; "\\n")?;
+""", "result = ok some 3\n", "result = refused 2 5\n"),
+    ("done", """input: n = 5
+right: result = ok
+wrong: result = refused 2
+""", """    let n = 5;
+    let result = small::done(n);
+""", """    print!(host; "result =")?;
+    match result {
+        Ok(_) => {
+            print!(host; " ok")?;
+        }
+        Err(e) => print!(host; " refused {}", e.number())?,
+    }
+    print!(host; "\\n")?;
+""", "result = ok\n", "result = refused 2\n"),
+]
+# what stands in the first of them, what is put for it, and what is wrong with it
+LENT_UNFIT = [
+    ("input: from = [2]\n", "", "no input for from"),
+    ("input: from = [2]\n", "input: from = [2]\ninput: to = [2]\n", "the function has no to"),
+    ("input: pair = even::two()\n", "", "no input for pair"),
+    ("input: from = [2]\n", "input: from = 2\n", "no list in brackets: 2"),
+    ("input: costs = [4, 3]\n", "input: costs = [4, 3]\ninput: bits = [4, 3]\ninput: opens = [1, 1]\n", "the function has no costs"),
+    ("input: costs = [4, 3]\n", "input: costs = [4, 3]\ninput: opens = [1, 1]\n", "the function has no opens"),
+    ("input: costs = [4, 3]\n", "", "no input for costs"),
+    ("input: count = 1\n", "input: count = 1\ninput: net = [1]\n", "the function has no net"),
+    ("input: count = 1\n", "input: net = net::none()\n", "the function has no from"),
+    ("input: K = u16\n", "input: K = u16\ninput: T = u16\n", "the function has no T"),
+    ("input: K = u16\n", "input: K = u16\ninput: T::Key = u16\n", "the function has no T::Key"),
+    ("input: K = u16\n", "input: K = u16\ninput: K = u8\n", "an input is named twice"),
+    (": result = ", ": result.at = ", "the result has no at"),
+    (": starts = 7", ": out = 7", "the function does not write out"),
+    (": starts = 7", ": held = 7", "the function does not write held"),
+    (": starts = 7", ": from = 7", "the function does not write from"),
+    (": starts = 7", ": list = 7", "the function does not write list"),
+    ("wrong: starts = 7 8 ..", "wrong: starts = 7 8", "the two answers are not of the same entries"),
+]
+
+
+def lent(function, lines):
+    """The crates of structs of what is lent with an edit of a function that has these inputs and answers."""
+    return dict(LENT, **{file_of("lent"): edit(function, "", "pub struct Place", "pub struct Places", ()) + lines})
 
 
 def file_of(name):
@@ -286,6 +594,29 @@ class Differ(unittest.TestCase):
             write(root, {"crates.txt": "small:\n", LIB: SOUND[LIB] + SIGN, file_of("sign"): asked})
             known = {f.name: f for f in tool.public_functions(root)}
             self.assertEqual(tool.case_text(root, known["small::sign"], tool.read_edits(root)[0]), SIGN_SHOWN)
+
+    def test_lent(self):
+        """What is made of structs of what is lent, of types that are named, and of answers that may be none."""
+        tool = loaded("differ")
+        for function, lines, call, shown, right, wrong in LENT_SHOWN:
+            with self.subTest(lines), tempfile.TemporaryDirectory() as root:
+                write(root, lent(function, lines))
+                (asked,), known = tool.read_edits(root), {f.name: f for f in tool.public_functions(root)}["small::" + function]
+                self.assertIsNone(tool.fits(root, known, asked))
+                self.assertEqual(tool.case_text(root, known, asked), call + shown)
+                self.assertEqual([tool.answer(root, known, asked, x) for x in (asked.right, asked.wrong)], [right, wrong])
+
+    def test_lent_unfit(self):
+        """Inputs and answers that do not fit what is lent in structs, without a run."""
+        cases = [("look", LOOK.replace(old, new), words) for old, new, words in LENT_UNFIT]
+        cases += [("odd", "input: n = 5\nright: result = none\nwrong: result = some 1\n", "the result holds a Refusal")]
+        cases += [("twice", "input: starts = [1]\nright: rows = 1\nwrong: rows = 2\n", "two things are lent by the name starts")]
+        for function, lines, words in cases:
+            with self.subTest(words + lines), mock.patch("small_try.tried", side_effect=AssertionError("nothing is to be run")):
+                self.assertNotEqual(lines, LOOK)
+                status, said = tried(lent(function, lines))
+                self.assertIn("differ: %s: %s\n" % (file_of("lent"), words), said)
+                self.assertEqual(status, 1)
 
 
 if __name__ == "__main__":

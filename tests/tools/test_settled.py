@@ -6,6 +6,7 @@ import unittest
 from sound import LIB, ONE, SOUND, SUMS, broken, loaded, run, with_breaks
 
 MORE, DEEP, TWO, SPECS, ONES = ("crates/more/" + name for name in ("src/lib.rt", "src/deep.rt", "src/deep/two.rt", "specs/More.antt", "proofs/Ones.antt"))
+EVEN, OTHER, HOLDS, VIEWS = "crates/even/src/lib.rt", "crates/more/src/other.rt", "crates/more/specs/Holds.antt", "crates/more/proofs/Views.antt"
 SETTLED, EXCEPTIONS = "docs/SETTLED.md", "docs/EXCEPTIONS.md"
 
 # the sound tree with a crate that has a function for each way in which a law may be written
@@ -81,7 +82,7 @@ impl Pair {
     }
 }
 """,
-    DEEP: "ghost use Rattle.std.specs.Prelude.{◌≡◌};\n\npub fn same(mut n: usize) -> usize\n    ensures { result ≡ n }\n{\n    n\n}\n",
+    DEEP: "ghost use Rattle.std.specs.Prelude.{◌≡◌};\n\npub fn same(mut n: usize) -> usize\n    ensures { result ≡ n }\n{\n    n\n}\n\nstruct Tally<'a> {\n    out: &'a mut [u8],\n}\n",
     TWO: "ghost use Rattle.std.specs.Prelude.{◌≡◌};\n\npub fn two() -> usize\n    ensures { result ≡ 2 }\n{\n    2\n}\n",
     "crates/more/src/deeper.rt": "pub fn nobody() -> usize\n{\n    2\n}\n",
     SPECS: """-- More definitions.
@@ -164,6 +165,212 @@ left_one p q = p
 """,
 })
 
+# with structs of what is lent, and views of results
+FILES = dict(FILES, **{
+    EVEN: """// What another crate lends.
+pub struct Lists<'a, W> {
+    pub out: &'a mut [usize],
+    pub rest: &'a mut [W],
+}
+
+pub struct Tally<'a> {
+    pub out: &'a mut [u8],
+    pub count: usize,
+}
+
+pub struct Held<'a> {
+    pub out: &'a mut [u8],
+    pub rest: &'a mut [u8],
+    pub most: &'a mut [u8],
+}
+""",
+    OTHER: """ghost use Rattle.std.specs.Prelude.{◌≡◌, ◌≤◌};
+ghost use Rattle.small.specs.Sums.{Told, twice};
+ghost use Rattle.more.specs.More.{rest_of};
+ghost use Rattle.more.specs.Holds.{Swept, held_in, lists_in, all_in, tally_of, number_after, count_after, number_in};
+
+use even::Tally;
+use even::{
+    Lists, Two,
+};
+
+pub enum Trouble {
+    Full,
+    Bad,
+}
+
+pub struct Held<'a> {
+    pub out: &'a mut [u8],
+    pub rest: &'a mut [u8],
+    ghost even: { length out ≡ length rest },
+}
+
+impl<'a> Held<'a> {
+    pub fn clear(&mut self, n: usize)
+        ensures { held_in self.new ≡ cleared n (held_in self.old) }
+    {
+    }
+
+    pub fn look(&self, n: usize) -> usize
+        ensures { result ≡ first_of self.now n }
+    {
+        n
+    }
+}
+
+pub fn tell_each(held: &mut Held, n: usize)
+    ensures { (held.new.out.now ≡ twice n) × (held.new.rest.now ≡ held.old.rest.now) }
+{
+}
+
+pub fn tell_other<'a>(held: &'a mut even::Held<'a>, n: usize)
+    ensures { (held.new.out.now ≡ twice n) × (held.new.rest.now ≡ held.old.rest.now) }
+    ensures most { held.new.most.now ≡ held.old.most.now }
+{
+}
+
+pub fn tally(tally: &mut Tally<'_>, n: usize)
+    ensures { tally_of tally.new.out.now tally.new.count ≡ tally_of tally.old.out.now n }
+{
+}
+
+pub struct Wide<'a> {
+    pub pair: Two<&'a mut [u8], even::Out>,
+    pub out: &'a mut [u8],
+}
+
+pub struct Found {
+    pub pair: Two<u8, more::Pair>,
+    pub at: usize,
+}
+
+pub fn widen<W: Into<Two<u8, W>>, F: Fn(usize) -> usize>(wide: &mut Wide, pair: Two<u8, more::Pair>, n: usize) -> Found
+    ensures { (wide.new.out.now ≡ twice n) × (wide.new.pair ≡ wide.old.pair) }
+    ensures { (result.pair ≡ pair) × (result.at ≡ n) }
+{
+    Found { pair: pair, at: n }
+}
+
+pub fn sweep<'a, W>(held: &Held, lists: &mut Lists<'a, W>, n: usize)
+    ensures { Swept (first_of held n) (lists_in lists.old) (lists_in lists.new) }
+{
+}
+
+pub fn sweep_all(out: &mut [u8], lists: &mut Lists<u8>, held: &mut Held, n: usize)
+    ensures { Swept n (all_in out.old lists.old held.old) (all_in out.new lists.new held.new) }
+{
+}
+
+pub fn tried(n: usize) -> Result<usize, other::Trouble>
+    ensures { (number_after n result ≡ 0) × (count_after (twice n) result ≡ twice n) }
+{
+    Ok(n)
+}
+
+pub fn tried_at(out: &mut [u8], n: usize) -> Result<(), Trouble>
+    ensures { rest_of (number_in result) out.new ≡ rest_of n out.old }
+{
+    Ok(())
+}
+
+pub fn told(out: &mut [u8], n: usize) -> Result<(), Trouble>
+    ensures { Told n out.old out.new (number_in result) }
+{
+    Ok(())
+}
+""",
+    HOLDS: """-- What is lent, and what is answered.
+use Rattle.std.specs.Prelude.{◌≡◌, List, ℕ, Result, Ok, Err}
+use Rattle.more.specs.declared.Held as code
+use Rattle.more.specs.declared.Trouble.{Trouble}
+use Rattle.even.specs.declared.Lists as even
+
+pub record Both : Type 0 where
+  pub out : List ℕ
+  pub rest : List ℕ
+
+abbrev pub both_of : List ℕ → List ℕ → Both
+both_of x y = record { out = x; rest = y }
+
+abbrev pub held_in : code.Held → Both
+held_in h = both_of h.out.now h.rest.now
+
+abbrev pub lists_in : {W : Type 0} → even.Lists W → Both
+lists_in l =
+    record {
+      out = l.out.now;
+      rest = l.rest.now;
+    }
+
+pub record All : Type 0 where
+  pub first : List ℕ
+  pub lists : Both
+  pub held : Both
+
+abbrev pub all_in : List ℕ → even.Lists ℕ → code.Held → All
+all_in x l h = record { first = x; lists = lists_in l; held = both_of h.out.now h.rest.now }
+
+pub record Tally : Type 0 where
+  pub out : List ℕ
+  pub count : ℕ
+
+abbrev pub tally_of : List ℕ → ℕ → Tally
+tally_of x n = record { out = x; count = n }
+
+pub record Swept {K : Type 0} (n : ℕ) (before after : K) : Type 0 where
+  pub same : after ≡ before
+
+abbrev pub number_in : {A : Type 0} → Result A Trouble → ℕ
+number_in (Ok _) = 0
+number_in (Err t) = 1
+
+abbrev pub number_after : ℕ → Result ℕ Trouble → ℕ
+number_after n (Ok _) = 0
+number_after n (Err t) = n
+
+abbrev pub count_after : ℕ → Result ℕ Trouble → ℕ
+count_after n (Ok k) = k
+count_after n (Err t) = n
+""",
+    "crates/more/specs/Same.antt": "-- Another.\nuse Rattle.std.specs.Prelude.{ℕ, Result}\n\nabbrev pub number_in : Result ℕ ℕ → ℕ\nnumber_in r = 0\n",
+    VIEWS: """-- What tells all.
+use Rattle.std.proofs.Common.{◌≡◌, List, ℕ}
+use Rattle.std.specs.Prelude.{Result, Option}
+use Rattle.small.specs.Sums.{Told}
+use Rattle.more.specs.declared.Trouble as code
+use Rattle.more.specs.Holds.{Swept, Both, All, number_in, number_after}
+use Rattle.more.specs.Holds as holds
+
+pub swept_one : {n : ℕ} {b e f : Both} → Swept n b e → Swept n b f → e ≡ f
+swept_one p q = p
+
+pub all_one : {n : ℕ} {b e f : All} → Swept n b e → Swept n b f → e ≡ f
+all_one p q = p
+
+pub answered_one : {n r s : ℕ} {b x y : List ℕ} → Told n b x r → Told n b y s → (x ≡ y) × (r ≡ s)
+answered_one p q = p
+
+pub number_one : (x y : Result Unit code.Trouble) → number_in x ≡ number_in y → x ≡ y
+number_one x y e = e
+
+pub both_one : (n m : ℕ) (x y : Result ℕ code.Trouble) →
+    number_after n x ≡ number_after n y →
+    (holds.count_after m x ≡ holds.count_after m y) → x ≡ y
+both_one n m x y e f = f
+""",
+    SETTLED: FILES[SETTLED] + """| `more::other::sweep` | `more/proofs/Views.antt` `swept_one` |
+| `more::other::sweep_all` | `more/proofs/Views.antt` `all_one` |
+| `more::other::told` | `more/proofs/Views.antt` `answered_one` |
+
+## Views
+
+| Of | Views | File | Law |
+|---|---|---|---|
+| `Result<(), Trouble>` | `number_in` | `more/specs/Holds.antt` | `more/proofs/Views.antt` `number_one` |
+| `Result<usize, Trouble>` | `number_after`, `count_after` | `more/specs/Holds.antt` | `more/proofs/Views.antt` `both_one` |
+""",
+})
+
 # contracts that settle nothing by equation, in place of the one of `double`, and of `count`
 DOUBLE = "result ≡ twice n }\n{\n    n + n"
 COUNT = "packed result.number result.length out.new ≡ packed n (twice n) out.old"
@@ -209,9 +416,9 @@ NEW = [
     ("pub fn fresh(out: & mut [u8])", "small::fresh is not settled"),
     ("pub fn fresh<'a>(n: usize, out: &'a mut u8)", "small::fresh is not settled"),
     ("pub fn fresh(out: [&mut u8; 2])", "small::fresh is not settled"),
-    ("pub struct Held<'a> {\n    out: &'a mut [u8],\n}\n\npub fn fresh<'a>(held: Held<'a>)", "small::fresh is not settled"),
-    ("struct Held<'a> {\n    out: &'a mut [u8],\n}\n\npub struct Outer<'a> {\n    held: Held<'a>,\n}\n\npub fn fresh<'a>(outer: Outer<'a>)", "small::fresh is not settled"),
-    ("pub struct Held<'a>(&'a mut [u8]);\n\npub fn fresh<'a>(held: Held<'a>)", "small::fresh is not settled"),
+    ("pub struct Slot<'a> {\n    out: &'a mut [u8],\n}\n\npub fn fresh<'a>(slot: Slot<'a>)", "small::fresh is not settled"),
+    ("struct Slot<'a> {\n    out: &'a mut [u8],\n}\n\npub struct Outer<'a> {\n    slot: Slot<'a>,\n}\n\npub fn fresh<'a>(outer: Outer<'a>)", "small::fresh is not settled"),
+    ("pub struct Slot<'a>(&'a mut [u8]);\n\npub fn fresh<'a>(slot: Slot<'a>)", "small::fresh is not settled"),
     ("pub fn fresh(n: usize) -> usize\n    // ensures { result ≡ n }", "small::fresh is not settled"),
     ("pub fn fresh(n: usize) -> usize\n    ensures { _ ≡ n }", "small::fresh is not settled"),
     ("pub fn fresh(n: usize) -> Count\n    ensures { result.number ≡ n }", "small::fresh is not settled"),
@@ -228,8 +435,22 @@ NEW = [
     ("impl<'a> Count<'a> {\n    pub fn grow(&'a mut self)\n    {\n    }\n}\n\npub fn fresh()", "small::Count::grow is not settled"),
     ("pub fn double(n: usize) -> usize\n    requires { n ≤ 1 }\n    ensures { result ≡ n }", "there are two public functions small::double"),
 ]
+# heads over structs of what is lent, in place of the first of `other`, and how each is called
+LENT = [
+    ("pub fn fresh<'a>(pair: Two<&'a u8, Held<'a>>)", "more::other::fresh is not settled"),
+    ("pub fn fresh<'a>(pair: Two<u8, Held<'a>>)", "more::other::fresh is not settled"),
+    ("pub fn fresh<'a>(held: &'a mut Held<'a>)", "more::other::fresh is not settled"),
+    ("pub fn fresh<W: Into<Two<u8, W>>>(held: &mut Held)", "more::other::fresh is not settled"),
+    ("impl<'a> Held<'a> {\n    pub fn take(self)\n    {\n    }\n}\n\npub fn fresh()", "more::other::Held::take is not settled"),
+    ("impl<'a> Held<'a> {\n    pub fn take(mut self)\n    {\n    }\n}\n\npub fn fresh()", "more::other::Held::take is not settled"),
+    ("impl<'a> Held<'a> {\n    pub fn take(self: Self)\n    {\n    }\n}\n\npub fn fresh()", "more::other::Held::take is not settled"),
+    ("impl<'a> Held<'a> {\n    pub fn take(from: Two<u8, Self>)\n    {\n    }\n}\n\npub fn fresh()", "more::other::Held::take is not settled"),
+    ("impl<'a, W> Lists<'a, W>\nwhere\n    W: Copy,\n{\n    pub fn take(self)\n    {\n    }\n}\n\npub fn fresh()", "more::other::Lists::take is not settled"),
+    ("impl<'a, W: Into<Two<u8, W>>> Lists<'a, Two<u8, W>> {\n    pub fn take(self)\n    {\n    }\n}\n\npub fn fresh()", "more::other::Lists::take is not settled"),
+]
 TELL = "Told n out.old out.new result }"
 TOLD_ONE = "{n r s : ℕ} {b x y : List ℕ} → Told n b x r → Told n b y s → (x ≡ y) × (r ≡ s)"
+TOLD = "pub fn tell(out: &mut [u8], n: usize) -> usize\n    ensures { " + TELL
 NOT_SAID = "the contract does not say Told n b x r, of which told_one speaks"
 NO_OUTCOME = "no outcome and no record of outcomes, where told_one has the outcome "
 # contracts that told_one does not settle, and what is said of them
@@ -252,6 +473,12 @@ NOT_TOLD = [
     ("(Told n out.old out.new result) × (n ≡ n) → n ≡ n }", NOT_SAID),
     ("Told n out.old out.new result ∨ (n ≡ n) }", NOT_SAID),
     ("⊤ }", NOT_SAID),
+]
+# what a parameter is that is lent in a pair, of which the contract speaks by another name
+PAIRS = [
+    "Two<usize, &mut [u8]>",
+    "Two<usize, Two<usize, &mut [u8]>>",
+    "Two<fn(usize) -> usize, &mut [u8]>",
 ]
 NO_END = "told_one does not conclude that its outcomes are equal"
 # statements by which told_one settles nothing, and what is said of them
@@ -287,6 +514,50 @@ NO_LAW = [
     ("{f : ℕ → Type 0} {r s : ℕ} → f r → f s → r ≡ s", "the contract does not say f r, of which told_one speaks"),
 ]
 WRITTEN = "{at stop stop' : ℕ} → ((t t' : List ℕ) → P t → P t' → t ≡ t')"
+# laws that do not say of two results that they are one where the views of them are
+NUMBER = "(x y : Result Unit code.Trouble) → number_in x ≡ number_in y → x ≡ y"
+BOTH = """(n m : ℕ) (x y : Result ℕ code.Trouble) →
+    number_after n x ≡ number_after n y →
+    (holds.count_after m x ≡ holds.count_after m y) →"""
+NO_VIEWS = [
+    (NUMBER, "(x y : Result Unit code.Trouble) → number_in x ≡ number_in x → x ≡ y"),
+    (NUMBER, "(x y : Result Unit code.Trouble) → number_in x ≤ number_in y → x ≡ y"),
+    (NUMBER, "(x y : Result Unit code.Trouble) → number_in x ≡ number_in y ≡ 0 → x ≡ y"),
+    (NUMBER, "(x y : Result Unit code.Trouble) → number_in x ≡ number_in y → x ≡ x"),
+    (NUMBER, "(x y : Result Unit code.Trouble) → number_in x ≡ number_in y → x ≤ y"),
+    (NUMBER, "(x y : Result Unit code.Trouble) → number_in x ≡ number_in y → n ≤ 3 → x ≡ y"),
+    (NUMBER, "(x y : Result Unit code.Trouble) → x ≡ y → x ≡ y"),
+    (NUMBER, "(x y : Result Unit code.Trouble) → x ≡ y"),
+    (NUMBER, "(x y : Result Unit code.Trouble) → number_in (turned x) ≡ number_in (turned y) → x ≡ y"),
+    (NUMBER, "(x y : Result Unit code.Trouble) → number_in (turned x) ≡ number_in y → x ≡ y"),
+    (NUMBER, "(x y : Result Unit code.Trouble) → other_in x ≡ other_in y → x ≡ y"),
+    (NUMBER, "(x y : Result Unit code.Trouble) (never : ⊥) → number_in x ≡ number_in y → x ≡ y"),
+    (NUMBER, "(never : ⊥) (x y : Result Unit code.Trouble) → number_in x ≡ number_in y → x ≡ y"),
+    (NUMBER, "{never : ⊥} → (x y : Result Unit code.Trouble) → number_in x ≡ number_in y → x ≡ y"),
+    (NUMBER, "(x y : Result ℕ code.Trouble) → number_in x ≡ number_in y → x ≡ y"),
+    (NUMBER, "(x y : Option Unit code.Trouble) → number_in x ≡ number_in y → x ≡ y"),
+    (NUMBER, "(x : Result Unit code.Trouble) (y : Result ℕ code.Trouble) → number_in x ≡ number_in y → x ≡ y"),
+    (NUMBER, "(x : Result ℕ code.Trouble) (y : Result Unit code.Trouble) → number_in x ≡ number_in y → x ≡ y"),
+    (NUMBER, "{A : Type 0} → (x y : Result A code.Trouble) → number_in x ≡ number_in y → x ≡ y"),
+    ("number_one : (x y", "number_one {never : ⊥} : (x y"),
+    ("pub number_one", "module _ (never : ⊥) where\n  pub number_one"),
+    ("Common.{◌≡◌, List, ℕ}", "Common.{◌≢◌ as ◌≡◌, List, ℕ}"),
+    ("{Result, Option}", "{Option as Result}"),
+    ("specs.Holds.{Swept, Both, All, number_in, ", "specs.Same.{number_in}\nuse Rattle.more.specs.Holds.{Swept, Both, All, "),
+]
+NO_BOTH = [
+    "(n : ℕ) (x y : Result ℕ code.Trouble) → number_after n x ≡ number_after n y → holds.count_after n x ≡ holds.count_after n y →",
+    "(n : ℕ) (x y : Result ℕ code.Trouble) → number_after n x ≡ number_after n y → holds.count_after 0 x ≡ holds.count_after 0 y →",
+    "(n : ℕ) (x y : Result ℕ code.Trouble) → number_after n x ≡ number_after n y → holds.count_after (turned x) x ≡ holds.count_after (turned x) y →",
+    "(n : ℕ) (x y : Result ℕ code.Trouble) → number_after n x ≡ number_after n y → holds.count_after x x ≡ holds.count_after x y →",
+    "(n m : ℕ) (x y : Result ℕ code.Trouble) → number_after n x ≡ number_after n y → holds.count_after x m ≡ holds.count_after y m →",
+    "(n m : ℕ) (x y : Result ℕ code.Trouble) → number_after n x ≡ number_after n y → holds.count_after m x ≡ holds.count_after n y →",
+    "(n m : ℕ) (x y : Result ℕ code.Trouble) → number_after n x ≡ number_after n y → holds.count_after m x ≡ number_after m y →",
+    "(n : ℕ) (x y : Result ℕ code.Trouble) → number_after n x ≡ number_after n y →",
+    "(m : ℕ) (x y : Result ℕ code.Trouble) → holds.count_after m x ≡ holds.count_after m y →",
+]
+VIEW = "| `Result<(), Trouble>` | `number_in` | `more/specs/Holds.antt` | `more/proofs/Views.antt` `number_one` |"
+NUMBERED, COUNTED = "number_in: number_one does not say that they tell all of a Result<(), Trouble>", "does not say that they tell all of a Result<usize, Trouble>"
 # the rest: a file, what stands there, what is put for it, a part of what is said
 OTHERS = [
     (LIB, "pub fn tell(out: &mut [u8], n: usize) -> usize\n", "pub fn tell(out: &mut [u8], n: usize) -> usize\n    requires { n ≤ 100 }\n", "small::tell is a question or put and has a `requires`"),
@@ -353,6 +624,76 @@ OTHERS = [
     (ONES, "pub left_one {n : ℕ} :", "pub left_one {n : ℕ} {h : n ≤ 3} :", "left_one does not speak twice of n ≤ 3"),
     (ONES, "{C : Type 0} {b e f : Kept C}", "{b e f : Kept Unit}", "left_one is about Kept Unit, where the contract has kept_of"),
     (ONES, "{C : Type 0} {b e f : Kept C}", "{b e f : Rest}", "left_one is about Rest, where the contract has kept_of"),
+    # a lent struct is told by all that it holds, by definitions that are made of that
+    (OTHER, "    ghost even:", "    pub most: &'a mut [u8],\n    ghost even:", "more::other::Held::clear is not settled"),
+    (OTHER, "    ghost even:", "    pub most: Lists<'a, u8>,\n    ghost even:", "more::other::tell_each is not settled"),
+    (OTHER, "    ghost even:", "    pub most: usize,\n    ghost even:", "more::other::Held::clear is not settled"),
+    (OTHER, " × (held.new.rest.now ≡ held.old.rest.now) }\n{", " }\n{", "more::other::tell_each is not settled"),
+    (OTHER, "    ensures most { held.new.most.now ≡ held.old.most.now }\n", "", "more::other::tell_other is not settled"),
+    (OTHER, "tally_of tally.new.out.now tally.new.count", "tally_of tally.new.out.now tally.old.count", "more::other::tally is not settled"),
+    (OTHER, "tally_of tally.new.out.now tally.new.count", "tally_of tally.new.out.now tally.new.count.now", "more::other::tally is not settled"),
+    (OTHER, " × (wide.new.pair ≡ wide.old.pair)", "", "more::other::widen is not settled"),
+    (OTHER, "wide.new.pair ≡ wide.old.pair", "wide.new.pair.now ≡ wide.old.pair", "more::other::widen is not settled"),
+    (OTHER, " × (result.at ≡ n)", "", "more::other::widen is not settled"),
+    (OTHER, "    pub out: &'a mut [u8],\n    pub rest: &'a mut [u8],\n    ghost", "    pub out: &'a mut [u8],\n    pub rest: &'a [u8],\n    ghost", "more::other::Held::clear is not settled"),
+    (OTHER, "(&self, n: usize)", "(&mut self, n: usize)", "more::other::Held::look is not settled"),
+    (OTHER, "result ≡ first_of self.now n", "result ≡ first_of self.new n", "more::other::Held::look is not settled"),
+    (OTHER, "held_in self.new ≡", "held_in self.old ≡", "more::other::Held::clear is not settled"),
+    (OTHER, "held_in self.new ≡", "held_in (twice self.new) ≡", "more::other::Held::clear is not settled"),
+    (OTHER, "held_in self.new ≡", "held_in self.new n ≡", "more::other::Held::clear is not settled"),
+    (OTHER, "(held: &Held, lists", "(held: &mut Held, lists", "where both outcomes of swept_one have n"),
+    (OTHER, "(lists_in lists.old) (lists_in lists.new)", "(lists_in lists.new) (lists_in lists.new)", "where both outcomes of swept_one have b"),
+    (OTHER, "(lists_in lists.old) (lists_in lists.new)", "(lists_in lists.old) (lists_in lists.old)", "where swept_one has the outcome e"),
+    (OTHER, "(all_in out.new lists.new held.new)", "(all_in out.new lists.new held.old)", "where all_one has the outcome e"),
+    (OTHER, "(all_in out.new lists.new held.new)", "(all_in (twice out.new) lists.new held.new)", "where all_one has the outcome e"),
+    (OTHER, "(all_in out.new lists.new held.new)", "(all_in out.new lists.new held)", "where all_one has the outcome e"),
+    (OTHER, "sweep_all(out: &mut [u8]", "sweep_all(on: &mut [u8], out: &mut [u8]", "all_one does not speak of on"),
+    (EVEN, "    pub rest: &'a mut [W],\n", "    pub rest: &'a mut [W],\n    pub most: &'a mut [u8],\n", "more::other::sweep is not settled by swept_one: swept_one does not speak of lists"),
+    (EVEN, "    pub count: usize,\n", "    pub count: usize,\n    pub most: usize,\n", "more::other::tally is not settled"),
+    (HOLDS, "held_in h = both_of h.out.now h.rest.now", "held_in h = both_of h.out.now h.out.now", "more::other::Held::clear is not settled"),
+    (HOLDS, "held_in h = both_of h.out.now h.rest.now", "held_in h = both_of h.out.now (twice h.rest.now)", "more::other::Held::clear is not settled"),
+    (HOLDS, "held_in h = both_of h.out.now h.rest.now", "held_in h = both_of h.out.now h.rest.later", "more::other::Held::clear is not settled"),
+    (HOLDS, "held_in h = both_of h.out.now h.rest.now", "held_in h = both_of h.out.now k.rest.now", "more::other::Held::clear is not settled"),
+    (HOLDS, "held_in h = both_of h.out.now h.rest.now", "held_in h = first_of h.out.now h.rest.now", "more::other::Held::clear is not settled"),
+    (HOLDS, "held_in h = both_of h.out.now h.rest.now", "held_in h = [] ≡ both_of h.out.now h.rest.now", "more::other::Held::clear is not settled"),
+    (HOLDS, "held_in h = both_of h.out.now h.rest.now", "held_in z = both_of [] []\nheld_in h = both_of h.out.now h.rest.now", "more::other::Held::clear is not settled"),
+    (HOLDS, "held_in h = both_of h.out.now h.rest.now", "held_in (made h) = both_of h.out.now h.rest.now", "more::other::Held::clear is not settled"),
+    (HOLDS, "abbrev pub both_of", "abbrev pub other_of", "more::other::Held::clear is not settled"),
+    (HOLDS, "      rest = l.rest.now;\n", "      rest = l.out.now;\n", "swept_one does not speak of lists"),
+    (HOLDS, "      rest = l.rest.now;\n", "      rest = [];\n", "where swept_one has the outcome e"),
+    (HOLDS, "      rest = l.rest.now;\n", "      rest = l.rest;\n", "where swept_one has the outcome e"),
+    (HOLDS, "      rest = l.rest.now;\n    }", "      rest = l.rest.now;\n    }.out", "where swept_one has the outcome e"),
+    (HOLDS, "first = x; lists", "first = []; lists", "where all_one has the outcome e"),
+    (HOLDS, "first = x; lists", "first = h.out.now; lists", "all_one does not speak of out"),
+    # a result is told by all of its views, each of which has it last
+    (OTHER, "(number_after n result ≡ 0) × ", "", "more::other::tried is not settled"),
+    (OTHER, " × (count_after (twice n) result ≡ twice n)", "", "more::other::tried is not settled"),
+    (OTHER, "count_after (twice n) result ≡", "count_after result n ≡", "more::other::tried is not settled"),
+    (OTHER, "count_after (twice n) result ≡", "count_after n (twice result) ≡", "more::other::tried is not settled"),
+    (OTHER, "count_after (twice n) result ≡", "count_after (number_after n result) result ≡", "more::other::tried is not settled"),
+    (OTHER, "count_after (twice n) result ≡", "count_before (twice n) result ≡", "more::other::tried is not settled"),
+    (OTHER, "rest_of (number_in result) out.new", "rest_of (number_in out.new) out.new", "more::other::tried_at is not settled"),
+    (OTHER, "rest_of (number_in result) out.new", "rest_of (number_in out.new result) out.new", "more::other::tried_at is not settled"),
+    (OTHER, "rest_of (number_in result) out.new", "rest_of (number_in result) out.old", "more::other::tried_at is not settled"),
+    (OTHER, "(out: &mut [u8], n: usize) -> Result<(), Trouble>\n    ensures { rest_of", "(out: &mut [u8], n: usize) -> Result<u8, Trouble>\n    ensures { rest_of", "more::other::tried_at is not settled"),
+    (OTHER, "(out: &mut [u8], n: usize) -> Result<(), Trouble>\n    ensures { Told", "(out: &mut [u8], n: usize) -> Option<()>\n    ensures { Told", "where answered_one has the outcome r"),
+    (OTHER, "ensures { Told n out.old out.new (number_in result) }", "ensures { Told (number_in result) out.old out.new (number_in result) }", "where both outcomes of answered_one have n"),
+    (OTHER, "count_after, number_in};", "count_after};\nghost use Rattle.more.specs.Same.{number_in};", "more::other::tried_at is not settled"),
+    (HOLDS, "abbrev pub number_in :", "abbrev pub number_of :", "there is no number_in in more/specs/Holds.antt"),
+    (SETTLED, VIEW, VIEW.replace("Holds", "Nowhere"), "there is no number_in in more/specs/Nowhere.antt"),
+    (SETTLED, VIEW, VIEW.replace("Holds", "Same"), NUMBERED),
+    (SETTLED, VIEW, VIEW.replace("`number_one`", "`number_two`"), "no law number_two in more/proofs/Views.antt"),
+    (SETTLED, VIEW, VIEW.replace("proofs/Views.antt` `number_one`", "specs/Holds.antt` `Swept`"), "no law Swept in more/specs/Holds.antt"),
+    (SETTLED, VIEW, VIEW.replace("`number_one`", "`both_one`"), "number_in: both_one does not say"),
+    (SETTLED, VIEW, VIEW.replace("`number_in`", "all of it"), ": number_one does not say"),
+    (SETTLED, VIEW, VIEW.replace("`number_in`", "all of it").replace("number_one", "swept_one"), ": swept_one does not say"),
+    (SETTLED, VIEW, VIEW.replace("`number_in`", "`number_in`, `number_in`"), "number_in, number_in: number_one does not say"),
+    (SETTLED, VIEW, VIEW.replace("Result<(), ", "Result<u8, "), NUMBERED.replace("<(), ", "<u8, ")),
+    (SETTLED, VIEW, VIEW.replace("Result<(), ", "Option<(), "), NUMBERED.replace("Result", "Option")),
+    (SETTLED, VIEW, "", "more::other::tried_at is not settled"),
+    (SETTLED, "`number_after`, `count_after`", "`count_after`, `number_after`", "both_one " + COUNTED),
+    (SETTLED, "`number_after`, `count_after`", "`number_after`", "both_one " + COUNTED),
+    (SETTLED, "## Views", "## Results", "Result<(), Trouble> is listed, and there is no such public function"),
     (DEEP, "result ≡ n", "result ≤ n", "settled: crates/more/src/deep.rt:3: more::deep::same is not settled"),
     (TWO, "result ≡ 2", "result ≤ 2", "more::deep::two::two is not settled"),
     (MORE, "mod deeper;", "pub mod deeper;", "more::deeper::nobody is not settled"),
@@ -389,6 +730,17 @@ more::deep::same equation
 more::deep::two::two equation
 more::leave law left_one in more/proofs/Ones.antt
 more::leave_named law left_one in more/proofs/Ones.antt
+more::other::Held::clear equation
+more::other::Held::look equation
+more::other::sweep law swept_one in more/proofs/Views.antt
+more::other::sweep_all law all_one in more/proofs/Views.antt
+more::other::tally equation
+more::other::tell_each equation
+more::other::tell_other equation
+more::other::told law answered_one in more/proofs/Views.antt
+more::other::tried equation
+more::other::tried_at equation
+more::other::widen equation
 more::part equation
 more::tell_again law again_one in more/proofs/Ones.antt
 more::write law written_one in more/proofs/Ones.antt, text_one in more/proofs/Ones.antt
@@ -397,7 +749,7 @@ small::count equation
 small::double equation
 small::somewhere exception
 small::tell law told_one in small/proofs/One.antt
-settled: 14 public functions in 3 crates: 6 by equation, 7 by a law, 1 exceptions; 1 with a `requires`; 0 wrong
+settled: 25 public functions in 4 crates: 14 by equation, 10 by a law, 1 exceptions; 1 with a `requires`; 0 wrong
 """.split("\n")
 
 # what the sound tree may have in another form: a file, what stands there, what is put for it
@@ -410,6 +762,15 @@ SAME = [
     (MORE, "let before = out.old in", "let before = let other = out.old in other in"),
     (MORE, "let before = out.old in", "let before : List ℕ = out.old in"),
     (MORE, "ghost use Rattle.more.specs.More as more;", "ghost use Rattle.more.specs.More as more;\nghost use Rattle.small.specs.Sums;"),
+    (OTHER, "use even::{\n    Lists, Two,\n};", "use even::Lists;\nuse even::Two;"),
+    (OTHER, "lists: &mut Lists<'a, W>", "lists: &mut even::Lists<'a, W>"),
+    (OTHER, "impl<'a> Held<'a> {", "impl<'a> Held<'a>\nwhere\n    Held<'a>: Drop,\n{"),
+    (OTHER, "(&mut self, n: usize)", "(self: &'a mut Self, n: usize)"),
+    (OTHER, "(&self, n: usize)", "(self: &Self, n: usize)"),
+    (OTHER, "-> Result<usize, other::Trouble>", "-> std::Result<usize, Trouble>"),
+    (VIEWS, "pub number_one : (x y : Result ", "use Rattle.std.specs.Prelude.{Result as Given}\n\npub number_one : (x y : Given "),
+    (HOLDS, "held_in h = both_of h.out.now h.rest.now", "held_in h = record { out = h.out.now; rest = h.rest.now }"),
+    (HOLDS, "lists = lists_in l; held = both_of h.out.now h.rest.now", "lists = both_of l.out.now l.rest.now; held = held_in h"),
 ]
 # a name of the library, and where it is declared
 DECLARED = [
@@ -427,7 +788,10 @@ BREAKS = OTHERS
 BREAKS += [(LIB, DOUBLE, DOUBLE.replace("result ≡ twice n", said), "small::double is not settled") for said in NO_EQUATION]
 BREAKS += [(LIB, COUNT, said, "small::count is not settled") for said in NO_RECORD]
 BREAKS += [(LIB, "// A place", head + "\n{\n}\n\n// A place", said) for head, said in NEW]
+BREAKS += [(OTHER, "impl<'a> Held", head + "\n{\n}\n\nimpl<'a> Held", said) for head, said in LENT]
 BREAKS += [(LIB, TELL, said, words) for said, words in NOT_TOLD]
+BREAKS += [(LIB, TOLD, TOLD.replace("out: &mut [u8]", "out: " + pair).replace("out.", "u8."), "the contract has u8.new, " + NO_OUTCOME + "x") for pair in PAIRS]
+BREAKS += [(VIEWS, old, new, NUMBERED) for old, new in NO_VIEWS] + [(VIEWS, BOTH, statement, COUNTED) for statement in NO_BOTH]
 BREAKS += [(ONE, TOLD_ONE, statement, words) for statement, words in NO_LAW]
 
 

@@ -9,6 +9,58 @@ from unittest import mock
 from sound import LIB, SOUND, loaded, run, told, with_breaks, write
 
 THRICE, TWICE, ZERO = "tests/wrong/small/thrice.edit", "tests/wrong/small/twice_once.edit", "crates/small/must-fail/zero.edit"
+FILL8, FILL16, FILL_NONE, WHOLE, WHOLE64, TAKE, LONG = (
+    "tests/wrong/more/%s.edit" % name for name in ("fill8", "fill16", "fill_none", "whole", "whole64", "take", "long")
+)
+
+
+def more(function, new, *inputs):
+    """An edit of the function of one line of the crate `more`, with its inputs."""
+    lines = ["# function: more::" + function, "# a wrong answer", "file: src/lib.rt", "in: " + function.split("::")[-1], "old: n + 1", "new: " + new]
+    return "\n".join(lines + ["input: " + x for x in inputs] + ["right: result = 2", "wrong: result = 1"]) + "\n"
+
+
+# the sound tree with a crate of functions for several types, and one that has inputs like theirs and is for one type
+FILES = dict(SOUND, **{
+    "crates/more/src/lib.rt": """pub struct Held<'a, K> {
+    pub keys: &'a mut [K],
+}
+
+pub fn fill<'a, T: Into<Two<u8, T>>>(list: &'a mut [T], n: usize) -> usize
+{
+    n + 1
+}
+
+pub fn whole<C: Costs>(costs: C, n: usize) -> usize
+{
+    n + 1
+}
+
+impl<'a, K: Copy> Held<'a, K> {
+    pub fn take(&mut self, n: usize) -> usize
+    {
+        n + 1
+    }
+}
+
+pub fn long(costs: &mut [i32], bits: &mut [u64], n: usize) -> usize
+{
+    n + 1
+}
+""",
+    FILL8: more("fill", "n", "T = u8", "T::Key = u8", "n = 1"),
+    FILL16: more("fill", "n", "T = u16", "T::Key = u16", "n = 1"),
+    FILL_NONE: more("fill", "0", "T = u16", "n = 1"),
+    WHOLE: more("whole", "n", "costs = [1]", "n = 1"),
+    WHOLE64: more("whole", "n", "bits = [1]", "opens = [1]", "n = 1"),
+    "tests/wrong/more/whole_named.edit": more("whole", "n", "C = Others", "n = 1"),
+    "tests/wrong/more/whole_none.edit": more("whole", "0", "costs = [1]", "n = 1"),
+    TAKE: more("Held::take", "n", "K = u8", "n = 1"),
+    "tests/wrong/more/take16.edit": more("Held::take", "n", "K = u16", "n = 1"),
+    "tests/wrong/more/take_none.edit": more("Held::take", "0", "K = u8", "n = 1"),
+    LONG: more("long", "n", "bits = [1]", "n = 1"),
+    "tests/wrong/more/long_none.edit": more("long", "0", "costs = [1]", "n = 1"),
+})
 
 BREAKS = [
     (ZERO, "# function: small::count\n", "", "small::count: 1 wrong answers are named"),
@@ -38,6 +90,21 @@ BREAKS = [
     (TWICE, "old: twice", "in: Told\nold: twice", "its old text stands 0 times"),
     (TWICE, "old: twice", "in: told\nold: twice", "there is not one definition told"),
     (TWICE, "new: twice n = n", "new: twice n = n + n -- once", "it changes nothing"),
+    # twins name different types for a parameter of their function, and are one wrong answer
+    (FILL16, "input: T = u16", "input: T = u8", "fill8.edit: the same program as tests/wrong/more/fill16.edit"),
+    (FILL16, "input: T = u16\n", "", "fill8.edit: the same program as tests/wrong/more/fill16.edit"),
+    (FILL16, "input: T = u16", "input: S = u16", "fill8.edit: the same program as tests/wrong/more/fill16.edit"),
+    (FILL16, "input: T = u16", "input: T = u8\ninput: list = [2]", "fill8.edit: the same program as tests/wrong/more/fill16.edit"),
+    (FILL16, "new: n", "new: 0", "fill_none.edit: the same program as tests/wrong/more/fill16.edit"),
+    (FILL_NONE, "new: 0\ninput: T = u16", "new: n\ninput: T = u32", "more::fill: 1 wrong answers are named, and 2 are needed"),
+    (FILL_NONE, "new: 0\ninput: T = u16", "new: n\ninput: T = u8", "fill_none.edit: the same program as tests/wrong/more/fill8.edit"),
+    (WHOLE64, "input: bits = [1]\n", "", "whole64.edit: the same program as tests/wrong/more/whole.edit"),
+    (WHOLE64, "input: bits = [1]", "input: costs = [1]", "whole64.edit: the same program as tests/wrong/more/whole.edit"),
+    (WHOLE64, "input: bits = [1]", "input: C = Others", "whole_named.edit: the same program as tests/wrong/more/whole64.edit"),
+    (TAKE, "input: K = u8", "input: K = u16", "take16.edit: the same program as tests/wrong/more/take.edit"),
+    (TAKE, "new: n", "new: 0", "take_none.edit: the same program as tests/wrong/more/take.edit"),
+    (LONG, "new: n", "new: 0", "long_none.edit: the same program as tests/wrong/more/long.edit"),
+    (LONG, "new: n", "new: 0\ninput: T = u8", "long_none.edit: the same program as tests/wrong/more/long.edit"),
 ]
 
 # what a prover says of the sound tree with an edit, its exit status, and a part of what `wrong` has to say
@@ -116,7 +183,7 @@ def tried(plain, said, status, words=("small/thrice",), checked=0):
             return told("wrong", ["--root=" + root] + list(words))
 
 
-@with_breaks("wrong", BREAKS)
+@with_breaks("wrong", BREAKS, FILES)
 class Wrong(unittest.TestCase):
     """The sound tree passes, each break of it is seen, and so is what a prover says of an edit."""
 
