@@ -7,10 +7,10 @@ use mathlib.Core.List.{List}
 use Prim.Native.Nat.{ℕ, zero, suc, ◌+◌, ◌≤◌, ◌<◌}
 use native.Mathlib.Omega.{arith}
 use lib.Dec.{ltb, leb, eqb}
+use Rattle.std.proofs.Common.{Result, Ok, Err}
 use lib.IntN.{ℤ}
 use lib.ListN.{length}
-use Rattle.std.proofs.Common.{Result, Ok, Err}
-use Rattle.whole.proofs.Cases.{by_test, clash}
+use Rattle.whole.proofs.Cases.{by_test}
 use Rattle.mapfile.specs.Records.{record_at}
 use Rattle.mapfile.specs.Engines.{engine_of, has_engine}
 use Rattle.mapfile.specs.Load.{State, start_reading, state_of, at_start, at_head, goes_on, head_step, absent_step, link_may, link_step}
@@ -39,16 +39,15 @@ put_stands : (n number count : ℕ) (w : Reading) → Stands (after_put n number
 unfolding after_put
 put_stands n number count w = by_test Stands (eqb number 0) _ _ (λ _. going refl) (λ _. broke refl)
 
+-- an ask, by its engine
+ask_stands : (len : ℕ) (e : Result Engine ℕ) (source target : ℕ) (w : Reading) → Stands (ask_engine len e source target w)
+ask_stands len (Ok e) source target w =
+    by_test Stands (has_engine e w.float) _ _ (λ m. by_test Stands (ltb (w.at + 9) len) _ _ (λ _. broke refl) (λ _. asked _ refl m)) (λ _. broke refl)
+ask_stands len (Err n) source target w = broke refl
+
 -- what a record leaves
 abbrev StandsIn : State → Type 0
 StandsIn t = Stands t.reading
-
-engine_stands : (len source target : ℕ) (w : Reading) (e : Result Engine ℕ) → Stands (ask_engine len e source target w)
-engine_stands len source target w (Ok e) =
-    by_test Stands (has_engine e w.float) _ _
-    (λ m. by_test Stands (ltb (w.at + 9) len) _ _ (λ _. broke refl) (λ _. asked (record { engine = e; source = source; target = target }) refl m))
-    (λ _. broke refl)
-engine_stands len source target w (Err n) = broke refl
 
 record_stands : (r : Record) (len : ℕ) (s : State) → StandsIn (take_record r len s)
 unfolding head_step absent_step link_step float_step ask_step
@@ -58,18 +57,17 @@ record_stands (Head m d f) len s = by_test StandsIn (at_start s.reading.stage &&
 record_stands (Absent i) len s = by_test StandsIn (at_head s.reading.stage && ltb i s.reading.bound) _ _ (λ _. going refl) (λ _. broke refl)
 record_stands (Link a b c) len s = by_test StandsIn (link_may false s.reading) _ _ (λ _. put_stands 12 _ _ s.reading) (λ _. broke refl)
 record_stands (FloatLink a b x o) len s = by_test StandsIn (link_may true s.reading) _ _ (λ _. put_stands 17 _ _ s.reading) (λ _. broke refl)
-record_stands (Ask e source target) len s =
-    by_test Stands (at_start s.reading.stage) _ _ (λ _. broke refl) (λ _. engine_stands len source target s.reading (engine_of e))
+record_stands (Ask e source target) len s = by_test Stands (at_start s.reading.stage) _ _ (λ _. broke refl) (λ _. ask_stands len (engine_of e) source target s.reading)
 
 step_stands : (file : List ℕ) (s : State) → StandsIn (one_step file s)
 unfolding one_step
 step_stands file s = record_stands (record_at file s.reading.at) (length file) s
 
--- what does not go on has ended
-stopped : (w : Reading) → goes_on w.stage ≡ false → Stands w → Ended w
-stopped w h (going g) = absurd (clash g h)
-stopped w h (broke b) = broken b
-stopped w h (asked q a m) = asks q a m
+-- a reading that does not go on has ended
+stopped : (s : State) → goes_on s.reading.stage ≡ false → StandsIn s → Ended s.reading
+stopped s h (going g) = cc
+stopped s h (broke b) = broken b
+stopped s h (asked q a m) = asks q a m
 
 -- a reading with turns enough ends
 reading_ends : (k : ℕ) (file : List ℕ) (s : State) → StandsIn s → s.reading.at ≤ length file → s.reading.bound ≤ length s.marks → (goes_on s.reading.stage ≡ true → length file < s.reading.at + k)
@@ -82,7 +80,7 @@ reading_ends (suc k) file s st l f e =
     (λ q. let o = keeps_step file s l f in
     let n = e q in
     reading_ends k file (one_step file s) (step_stands file s) o.within (omega (arith, o.bounded, o.even)) (λ z. omega (arith, n, o.further z)))
-    (λ q. stopped s.reading q st)
+    (λ q. stopped s q st)
 
 -- the whole file
 pub file_ends : (limit : ℕ) (file ms xs ys : List ℕ) (cs : List ℤ) (bs os : List ℕ) → Ended (loaded limit file ms xs ys cs bs os).reading

@@ -21,12 +21,12 @@ use Rattle.table.proofs.Puts.{put_step}
 use Rattle.table.proofs.Slices.{table_of, Follows, follows_ints, follows_floats}
 use Rattle.mapfile.specs.Records.{record_at}
 use Rattle.mapfile.specs.Engines.{engine_of, has_engine}
-use Rattle.mapfile.specs.Load.{State, start_reading, state_of, with_reading, at_start, at_head, goes_on, head_step, absent_step, link_may}
-use Rattle.mapfile.specs.Load.{link_step, after_put, float_step, ask_engine, ask_step, take_record, one_step, read_on, loaded}
+use Rattle.mapfile.specs.Load.{State, start_reading, state_of, at_start, at_head, goes_on, head_step, absent_step, link_may, link_step}
+use Rattle.mapfile.specs.Load.{after_put, float_step, ask_engine, ask_step, take_record, one_step, read_on, loaded}
 use Rattle.mapfile.specs.declared.Engine.{Engine}
+use Rattle.mapfile.specs.declared.Question.{Question}
 use Rattle.mapfile.specs.declared.Stage.{Stage}
 use Rattle.mapfile.specs.declared.Stage.TheVariants.{Start, Headed, Linked, Bad, Asked}
-use Rattle.mapfile.specs.declared.Question.{Question}
 use Rattle.mapfile.specs.declared.Reading.{Reading}
 use Rattle.mapfile.specs.declared.Record.{Record}
 use Rattle.mapfile.specs.declared.Record.TheVariants.{End, Broken, Head, Absent, Link as LinkRecord, FloatLink, Ask}
@@ -51,29 +51,25 @@ put_good {C} k l d m marks r s g =
     (no_whole m _ (k.room s) marks _ (whole_back (record { indices = w.indices; marked = w.marked; few = p.sound.few })) ∙ ap (λ (b : Bool). cond b 0 2) p.sound.inside)
 
 -- ---- what is read
--- no link is read yet
-abbrev no_links : Stage → Bool
-no_links Start = true
-no_links Headed = true
-no_links _ = false
+-- before the links
+abbrev bare : Stage → Bool
+bare Start = true
+bare Headed = true
+bare _ = false
 
-start_bare : (t : Stage) → at_start t ≡ true → no_links t ≡ true
-start_bare Start e = refl
-start_bare Headed e = cc
-start_bare Linked e = cc
-start_bare Bad e = cc
-start_bare (Asked q) e = cc
+bare_start : (x : Stage) → at_start x ≡ true → bare x ≡ true
+bare_start Start e = refl
+bare_start Headed e = cc
+bare_start Linked e = cc
+bare_start Bad e = cc
+bare_start (Asked q) e = cc
 
-head_bare : (t : Stage) → at_head t ≡ true → no_links t ≡ true
-head_bare Start e = cc
-head_bare Headed e = refl
-head_bare Linked e = cc
-head_bare Bad e = cc
-head_bare (Asked q) e = cc
-
--- broken, it does not go on
-not_broken : (t : Stage) → goes_on t ≡ true → t ≡ Bad → ⊥
-not_broken t g b = clash g (ap goes_on b)
+bare_head : (x : Stage) → at_head x ≡ true → bare x ≡ true
+bare_head Start e = cc
+bare_head Headed e = refl
+bare_head Linked e = cc
+bare_head Bad e = cc
+bare_head (Asked q) e = cc
 
 module _ (s : State) where
   -- an integer map that neither 1 nor 2 refuses, with room for no more than 512 links
@@ -92,7 +88,7 @@ module _ (s : State) where
   pub record Good : Type 0 where
     pub ints : s.reading.float ≡ false → GoodInts
     pub floats : s.reading.float ≡ true → GoodFloats
-    pub early : no_links s.reading.stage ≡ true → Bare
+    pub early : bare s.reading.stage ≡ true → Bare
 
 -- where no rule is broken
 abbrev Fine : State → Type 0
@@ -117,8 +113,8 @@ float_may w e = and_right (not (at_start w.stage)) _ e
 
 -- a record
 module _ (len : ℕ) (s : State) (g : Good s) (few : length s.marks ≤ 1024) (marked : s.reading.bound ≤ length s.marks) where
-  abbrev Asking : Reading → Type 0
-  Asking w = Fine (with_reading w s)
+  abbrev P : Reading → Type 0
+  P w = Fine (state_of w s.marks s.from s.to s.costs s.bits s.opens)
 
   record_good : (r : Record) → Fine (take_record r len s)
   unfolding head_step absent_step link_step float_step ask_step after_put
@@ -127,12 +123,12 @@ module _ (len : ℕ) (s : State) (g : Good s) (few : length s.marks ≤ 1024) (m
   record_good (Head m d x) =
       by_test Fine (at_start s.reading.stage && leb m (length s.marks)) _ _
       (λ e _. let l : m ≤ length s.marks = leb-true m _ (and_right (at_start s.reading.stage) _ e) in
-      let b = g.early (start_bare s.reading.stage (and_left (at_start s.reading.stage) _ e)) in
+      let b = g.early (bare_start s.reading.stage (and_left (at_start s.reading.stage) _ e)) in
       bare_good _ (omega arith) (omega (arith, filled_length m 1 s.marks l)) (refl, b.1, b.2))
       (λ _ f. absurd (f refl))
   record_good (Absent i) =
       by_test Fine (at_head s.reading.stage && ltb i s.reading.bound) _ _
-      (λ e _. bare_good _ (omega arith) (omega (arith, length-set s.marks i 0)) (g.early (head_bare s.reading.stage (and_left (at_head s.reading.stage) _ e))))
+      (λ e _. bare_good _ (omega arith) (omega (arith, length-set s.marks i 0)) (g.early (bare_head s.reading.stage (and_left (at_head s.reading.stage) _ e))))
       (λ _ f. absurd (f refl))
   record_good (LinkRecord a b c) =
       by_test Fine (link_may false s.reading) _ _
@@ -166,16 +162,19 @@ module _ (len : ℕ) (s : State) (g : Good s) (few : length s.marks ≤ 1024) (m
       })
       (λ _ f. absurd (f refl)))
       (λ _ f. absurd (f refl))
-  record_good (Ask e source target) = by_test Asking (at_start s.reading.stage) _ _ (λ _ f. absurd (f refl)) (λ _. by_engine (engine_of e))
+  record_good (Ask e source target) =
+      by_test P (at_start s.reading.stage) _ _ (λ _ f. absurd (f refl)) (λ _. by_engine (engine_of e))
     where
-      by_engine : (r : Result Engine ℕ) → Asking (ask_engine len r source target s.reading)
-      by_engine (Ok e) =
-          by_test Asking (has_engine e s.reading.float) _ _
-          (λ _. by_test Asking (ltb (s.reading.at + 9) len) _ _
-          (λ _ f. absurd (f refl))
-          (λ _ _. record { ints = g.ints; floats = g.floats; early = λ z. cc }))
+      by_engine : (r : Result Engine ℕ) → P (ask_engine len r source target s.reading)
+      by_engine (Ok q) =
+          by_test P (has_engine q s.reading.float) _ _
+          (λ _. by_test P (ltb (s.reading.at + 9) len) _ _ (λ _ f. absurd (f refl)) (λ _ _. record { ints = g.ints; floats = g.floats; early = λ z. cc }))
           (λ _ f. absurd (f refl))
       by_engine (Err n) = λ f. absurd (f refl)
+
+-- a reading that goes on breaks no rule
+not_bad : (x : Stage) → goes_on x ≡ true → x ≡ Bad → ⊥
+not_bad x q e = let f : goes_on x ≡ false = ap goes_on e in cc
 
 -- the reading
 reading_good : (k : ℕ) (file : List ℕ) (s : State) → Fine s → length s.marks ≤ 1024 → s.reading.at ≤ length file → s.reading.bound ≤ length s.marks → Fine (read_on k file s)
@@ -184,7 +183,7 @@ reading_good zero file s g few l f = g
 reading_good (suc k) file s g few l f =
     by_test Fine (goes_on s.reading.stage) _ _
     (λ q. let o = keeps_step file s l f in
-    reading_good k file (one_step file s) (record_good (length file) s (g (not_broken s.reading.stage q)) few f (record_at file s.reading.at)) (omega (arith, o.even)) o.within
+    reading_good k file (one_step file s) (record_good (length file) s (g (not_bad s.reading.stage q)) few f (record_at file s.reading.at)) (omega (arith, o.even)) o.within
     (omega (arith, o.bounded, o.even)))
     (λ _. g)
 
@@ -206,5 +205,5 @@ all_good file =
     start = state_of start_reading (zeros 64) (zeros 512) (zeros 512) (zeros_i 512) (zeros 512) (zeros 512)
 
 -- a file that ends in its ask
-pub file_good : (file : List ℕ) (q : Question) → (read_file file).reading.stage ≡ Asked q → Good (read_file file)
-file_good file q e = all_good file (λ z. cc)
+pub file_good : (file : List ℕ) {q : Question} → (read_file file).reading.stage ≡ Asked q → Good (read_file file)
+file_good file e = all_good file (λ z. cc)

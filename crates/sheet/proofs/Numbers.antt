@@ -21,11 +21,11 @@ use Rattle.net.specs.Net.{Net, whole_net, inside_net, most_arcs, most_arcs_of, w
 use Rattle.net.proofs.Nodes.{width_most}
 use Rattle.rows.specs.Scratch.{has_lists}
 use Rattle.search.specs.Lists.{has_memory}
-use Rattle.mapfile.specs.Engines.{has_engine}
 use Rattle.mapfile.specs.declared.Engine.{Engine}
-use Rattle.mapfile.specs.declared.Engine.TheVariants.{Dijkstra, BellmanFord, AStar, FloydWarshall, Johnson, Hops, DijkstraPath}
+use Rattle.mapfile.specs.declared.Engine.TheVariants as asked
 use Rattle.mapfile.specs.declared.Question.{Question}
 use Rattle.mapfile.specs.declared.Stage.TheVariants.{Asked}
+use Rattle.mapfile.specs.Engines.{has_engine}
 use Rattle.mapfile.proofs.Loads.{loaded_bounded}
 use Rattle.float.specs.Cutoff.{Cutoff}
 use Rattle.dijkstra.specs.Promise as dijkstra
@@ -38,11 +38,12 @@ use Rattle.hops.specs.Promise as hops
 use Rattle.hops.proofs.Settles as hops_laws
 use Rattle.dijkstra_path.specs.Promise as path
 use Rattle.answers.specs.Answers.{zeros, zeros_i}
-use Rattle.sheet.specs.Sheet.{read_file, int_map, float_map, HopsOf, Answer}
-use Rattle.sheet.specs.Numbers.{hops_number, Possible}
+use Rattle.sheet.specs.Sheet as sheet
+use Rattle.sheet.specs.Sheet.{read_file, int_map, float_map, Answer}
+use Rattle.sheet.specs.Numbers.{Possible}
 use Rattle.sheet.proofs.Ends.{Ended, broken, asks, file_ends}
 use Rattle.sheet.proofs.Good.{file_good}
-use Rattle.sheet.proofs.Settles.{asked_one, bad_or_asked}
+use Rattle.sheet.proofs.Settles.{asked_one}
 
 -- a map that every engine takes with the fresh buffers
 record Small {C : Type 0} (g : Net C) : Type 0 where
@@ -56,7 +57,7 @@ arcs_few : (d : Bool) (n : ℕ) → n ≤ 512 → most_arcs d n ≤ 1024
 unfolding most_arcs
 arcs_few d n h = by_test (λ (a : ℕ). a ≤ 1024) d _ _ (λ _. omega arith) (λ _. omega arith)
 
-module _ (file : List ℕ) (q : Question) (e : (read_file file).reading.stage ≡ Asked q) where
+module _ (file : List ℕ) {q : Question} (e : (read_file file).reading.stage ≡ Asked q) where
   -- it has at most 64 indices
   bounded : (read_file file).reading.bound ≤ 64
   bounded = loaded_bounded 16384 file (zeros 64) (zeros 512) (zeros 512) (zeros_i 512) (zeros 512) (zeros 512)
@@ -65,7 +66,7 @@ module _ (file : List ℕ) (q : Question) (e : (read_file file).reading.stage �
   ints_small : (read_file file).reading.float ≡ false → Small (int_map (read_file file))
   ints_small f =
       let g = int_map (read_file file) in
-      let k = (file_good file q e).ints f in
+      let k = (file_good file e).ints f in
       let w = whole_of_no g.bound g.count g.room g.marks g.table k.0 in
       record {
         whole = w;
@@ -77,7 +78,7 @@ module _ (file : List ℕ) (q : Question) (e : (read_file file).reading.stage �
   floats_small : (read_file file).reading.float ≡ true → Small (float_map (read_file file))
   floats_small f =
       let g = float_map (read_file file) in
-      let k = (file_good file q e).floats f in
+      let k = (file_good file e).floats f in
       let w = whole_of_no g.bound g.count g.room g.marks g.table k.0 in
       record {
         whole = w;
@@ -142,38 +143,32 @@ star_numbers {g} {q} {b} {e} {r} k l f x =
     among (λ n. In n (0 ∷ 3 ∷ 4 ∷ 6 ∷ [])) (star.table g q b) (star.result_of r e) r.number
     (inl k then inl l then inr (there (here refl)) then inr (there (there (here refl))) then inl f then inr (there (there (there (here refl)))) then inr (here refl) then tt) x.follows
 
--- ---- a file that ends in its ask
-module _ (file : List ℕ) (q : Question) (ask : (read_file file).reading.stage ≡ Asked q) where
-  abbrev float : Bool
-  float = (read_file file).reading.float
-
+module _ (file : List ℕ) {q : Question} (ask : (read_file file).reading.stage ≡ Asked q) where
   -- the map's kind has the engine
-  may : has_engine q.engine float ≡ true
+  may : has_engine q.engine (read_file file).reading.float ≡ true
   may = go (file_ends 16384 file (zeros 64) (zeros 512) (zeros 512) (zeros_i 512) (zeros 512) (zeros 512))
     where
-      go : Ended (read_file file).reading → has_engine q.engine float ≡ true
-      go (broken b) = absurd (bad_or_asked (sym b ∙ ask))
-      go (asks p a m) = subst (λ (x : Question). has_engine x.engine float ≡ true) (asked_one (sym a ∙ ask)) m
+      go : Ended (read_file file).reading → has_engine q.engine (read_file file).reading.float ≡ true
+      go (broken b) = cc
+      go (asks k a m) = let e : k ≡ q = asked_one (sym a ∙ ask) in subst (λ (x : Question). has_engine x.engine (read_file file).reading.float ≡ true) e m
 
-  hops_none : (f : Bool) (text : List ℕ) → float ≡ f → (x : HopsOf f (int_map (read_file file)) (float_map (read_file file)) text) → hops_number (read_file file) f text x ≡ 0
-  unfolding hops.long_enough has_lists
-  hops_none false text f x = let k = ints_small file q ask f in hops_numbers (simp (k.whole, slots k, offsets k, arcs k, nodes k, cells k)) k.inside x.promise
-  hops_none true text f x = let k = floats_small file q ask f in hops_numbers (simp (k.whole, slots k, offsets k, arcs k, nodes k, cells k)) k.inside x.promise
+  -- an engine that wants an integer map has one, and one that wants an f64 map
+  of_ints : {g : Engine} → q.engine ≡ g → ((f : Bool) → has_engine g f ≡ not f) → Small (int_map (read_file file))
+  of_ints h k = ints_small file ask (not_t _ (rw (h, k) at may))
 
-  -- the numbers of an engine that the map's kind has
-  by_engine : (source target : ℕ) (text : List ℕ) (e : Engine) → has_engine e float ≡ true → (a : Answer (read_file file) e source target text)
-      → Possible (read_file file) e source target text a
-  unfolding dijkstra.long_enough bellman.long_enough star.long_enough has_memory floyd.enough johnson.long_enough path.long_enough has_lists
-  by_engine source target text Dijkstra m x = let k = ints_small file q ask (not_t float m) in dijkstra_numbers (simp (k.whole, slots k, offsets k, arcs k)) k.inside x.promise
-  by_engine source target text BellmanFord m x = let k = ints_small file q ask (not_t float m) in bellman_numbers (simp (k.whole, slots k, offsets k, arcs k)) k.inside x.promise
-  by_engine source target text AStar m x =
-      let k = ints_small file q ask (not_t float m) in
-      star_numbers (simp (k.whole, slots k, offsets k, arcs k)) k.inside (fair_zeros (has (int_map (read_file file))) (read_file file).reading.bound k.few) x.promise
-  by_engine source target text FloydWarshall m x = let k = ints_small file q ask (not_t float m) in pairs_numbers (simp (k.whole, slots k, cells k)) k.inside x.promise
-  by_engine source target text Johnson m x = let k = ints_small file q ask (not_t float m) in pairs_numbers (simp (k.whole, slots k, offsets k, arcs k, cells k)) k.inside x.promise
-  by_engine source target text Hops m x = here (hops_none float text refl x)
-  by_engine source target text DijkstraPath m x = let k = floats_small file q ask m in path_numbers (simp (k.whole, slots k, offsets k, arcs k)) k.inside x.promise
+  of_floats : q.engine ≡ asked.DijkstraPath → Small (float_map (read_file file))
+  of_floats h = floats_small file ask (rw h at may)
 
   -- the numbers that are possible
-  pub possible : (source target : ℕ) (text : List ℕ) (a : Answer (read_file file) q.engine source target text) → Possible (read_file file) q.engine source target text a
-  possible source target text = by_engine source target text q.engine may
+  pub possible : {source target : ℕ} {text : List ℕ} (a : Answer (read_file file) q.engine source target text) → Possible a
+  unfolding dijkstra.long_enough bellman.long_enough star.long_enough has_memory floyd.enough johnson.long_enough hops.long_enough path.long_enough has_lists
+  possible (sheet.dijkstra e x) = let k = of_ints e (λ f. refl) in dijkstra_numbers (simp (k.whole, slots k, offsets k, arcs k)) k.inside x.promise
+  possible (sheet.bellman_ford e x) = let k = of_ints e (λ f. refl) in bellman_numbers (simp (k.whole, slots k, offsets k, arcs k)) k.inside x.promise
+  possible (sheet.a_star e x) =
+      let k = of_ints e (λ f. refl) in
+      star_numbers (simp (k.whole, slots k, offsets k, arcs k)) k.inside (fair_zeros (has (int_map (read_file file))) (read_file file).reading.bound k.few) x.promise
+  possible (sheet.floyd_warshall e x) = let k = of_ints e (λ f. refl) in pairs_numbers (simp (k.whole, slots k, cells k)) k.inside x.promise
+  possible (sheet.johnson e x) = let k = of_ints e (λ f. refl) in pairs_numbers (simp (k.whole, slots k, offsets k, arcs k, cells k)) k.inside x.promise
+  possible (sheet.hops e f x) = let k = ints_small file ask f in hops_numbers (simp (k.whole, slots k, offsets k, arcs k, nodes k, cells k)) k.inside x.promise
+  possible (sheet.hops64 e f x) = let k = floats_small file ask f in hops_numbers (simp (k.whole, slots k, offsets k, arcs k, nodes k, cells k)) k.inside x.promise
+  possible (sheet.dijkstra_path e x) = let k = of_floats e in path_numbers (simp (k.whole, slots k, offsets k, arcs k)) k.inside x.promise

@@ -1,13 +1,13 @@
 // The sheet: from the bytes of a map file to the bytes that the program writes.
 #![tactic(auto)]
 
-ghost use Rattle.std.specs.Prelude.{◌+◌, ◌≤◌, length};
-ghost use Rattle.net.specs.Net.{int_net, float_net};
+ghost use Rattle.std.specs.Prelude.{◌≡◌, ℕ, ◌+◌, ◌≤◌, length};
+ghost use Rattle.mapfile.specs.Load.{state_of};
 ghost use Rattle.answers.specs.Output.{Fits, most};
 ghost use Rattle.answers.specs.Answers.{Written};
-ghost use Rattle.sheet.specs.Sheet.{AnswerOf, SoundOf, Sheet};
+ghost use Rattle.sheet.specs.Sheet.{Answer, Sound, Sheet};
 
-use mapfile::{Engine, Question, Stage};
+use mapfile::{Engine, Question, Reading, Stage};
 use net::{Floats, Ints, Lent};
 use table::Map;
 
@@ -19,20 +19,43 @@ pub const OUTPUT: usize = 98304;
 
 // Puts the answer of the engine that is asked.
 fn answer(
+    w: Reading,
     asked: Question,
-    float: bool,
-    ints: Lent<Ints>,
-    floats: Lent<Floats>,
+    marks: &[u8],
+    from: &[u16],
+    to: &[u16],
+    costs: &[i32],
+    bits: &[u64],
+    opens: &[u8],
     out: &mut [u8],
     at: usize,
 ) -> usize
-    requires of_ints { Fits ints.map.bound ints.marks.now out.old at }
-    requires of_floats { Fits floats.map.bound floats.marks.now out.old at }
+    requires { Fits w.bound marks.now out.old at }
     ensures written { Written
-        (AnswerOf float (int_net ints.entry) (float_net floats.entry) asked.engine asked.source asked.target)
-        out.old at out.new result }
+        (Answer
+        (state_of w marks.now from.now to.now costs.now bits.now opens.now)
+        asked.engine asked.source asked.target) out.old at out.new result }
     ensures upper_bound { result ≤ at + most }
 {
+    let map = Map {
+        bound: w.bound,
+        count: w.count,
+        directed: w.directed,
+    };
+    let ints = Lent {
+        map,
+        marks,
+        from,
+        to,
+        costs: Ints { costs },
+    };
+    let floats = Lent {
+        map,
+        marks,
+        from,
+        to,
+        costs: Floats { bits, opens },
+    };
     let source = usize::from(asked.source);
     let target = usize::from(asked.target);
     match asked.engine {
@@ -41,7 +64,7 @@ fn answer(
         Engine::AStar => answers::answer_a_star(ints, source, target, out, at),
         Engine::FloydWarshall => answers::answer_floyd_warshall(ints, out, at),
         Engine::Johnson => answers::answer_johnson(ints, out, at),
-        Engine::Hops if float => answers::answer_hops(floats, out, at),
+        Engine::Hops if w.float => answers::answer_hops(floats, out, at),
         Engine::Hops => answers::answer_hops(ints, out, at),
         Engine::DijkstraPath => answers::answer_dijkstra_path(floats, source, out, at),
     }
@@ -49,20 +72,25 @@ fn answer(
 
 // Puts the sheet of a file that ends in its ask.
 fn print_sound(
+    w: Reading,
     asked: Question,
-    float: bool,
-    ints: Lent<Ints>,
-    floats: Lent<Floats>,
+    marks: &[u8],
+    from: &[u16],
+    to: &[u16],
+    costs: &[i32],
+    bits: &[u64],
+    opens: &[u8],
     out: &mut [u8],
 ) -> usize
-    requires of_ints { (ints.map.bound ≤ 64) × (ints.map.bound ≤ length ints.marks.now) }
-    requires of_floats { (floats.map.bound ≤ 64) × (floats.map.bound ≤ length floats.marks.now) }
-    requires room { 98304 ≤ length out.old }
-    ensures written { Written (SoundOf float (int_net ints.entry) (float_net floats.entry) asked) out.old 0 out.new result }
+    requires { (w.bound ≤ 64) × (w.bound ≤ length marks.now) × (98304 ≤ length out.old) }
+    ensures written { Written
+        (Sound
+        (state_of w marks.now from.now to.now costs.now bits.now
+        opens.now) asked) out.old 0 out.new result }
     ensures upper_bound { result ≤ 98304 }
 {
     let first = text::print_engine(out, 0, u8::from(asked.engine));
-    let next = answer(asked, float, ints, floats, out, first);
+    let next = answer(w, asked, marks, from, to, costs, bits, opens, out, first);
     text::print_end(out, next)
 }
 
@@ -80,30 +108,10 @@ pub fn sheet(file: &[u8], out: &mut [u8; OUTPUT]) -> usize
     let w = mapfile::load(
         LIMIT, file, &mut marks, &mut from, &mut to, &mut costs, &mut bits, &mut opens,
     );
-    let Stage::Asked(asked) = w.stage else {
-        return text::print_bad(out, 0, w.at);
-    };
-    let map = Map {
-        bound: w.bound,
-        count: w.count,
-        directed: w.directed,
-    };
-    let ints = Lent {
-        map,
-        marks: &marks,
-        from: &from,
-        to: &to,
-        costs: Ints { costs: &costs },
-    };
-    let floats = Lent {
-        map,
-        marks: &marks,
-        from: &from,
-        to: &to,
-        costs: Floats {
-            bits: &bits,
-            opens: &opens,
-        },
-    };
-    print_sound(asked, w.float, ints, floats, out)
+    match w.stage {
+        Stage::Asked(asked) => print_sound(
+            w, asked, &marks, &from, &to, &costs, &bits, &opens, out,
+        ),
+        _ => text::print_bad(out, 0, w.at),
+    }
 }
