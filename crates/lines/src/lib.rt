@@ -23,7 +23,7 @@ pub const ROW: [u8; 3] = *b"row";
 
 pub const BAD_MAP: [u8; 10] = *b"bad map at";
 
-// Puts a text at a place. Buffer and place stay apart here and above: docs/EXCEPTIONS.md names these functions, and tests lend both by name.
+// Puts a text at a place. Buffer and place stay apart, here and above: docs/EXCEPTIONS.md names these functions.
 pub fn put_bytes(out: &mut [u8], at: usize, text: &[u8]) -> usize
     requires { at + length text.now ≤ length out.old }
     ensures { Printed out.old at text.now out.new result }
