@@ -536,7 +536,7 @@ NOW = (
 )
 HISTORY = "docs/changes/"
 MADE = ("docs/STATEMENTS.md",)
-BESIDE_OLDER = ("docs/PORT.md", "PORTING-LEFT.md")
+BESIDE_OLDER = ("docs/PORT.md", "docs/DESIGN-PASS.md", "PORTING-LEFT.md")
 
 
 def tree_files(root):

@@ -15,6 +15,10 @@ use Rattle.floyd_warshall.specs.Promise as FloydWarshall
 use Rattle.johnson.specs.Promise as Johnson
 use Rattle.a_star.specs.Promise as AStar
 use Rattle.a_star.specs.Given.{path_in}
+use Rattle.mapfile.specs.declared.Engine.{Engine}
+use Rattle.mapfile.specs.declared.Engine.TheVariants as asked
+use Rattle.mapfile.specs.declared.Question.{Question}
+use Rattle.mapfile.specs.declared.Stage.TheVariants.{Asked}
 use Rattle.mapfile.specs.Load.{State}
 use Rattle.table.specs.Links.{link_of}
 use Rattle.table.specs.Lent.{Ints, ints_now, ints_put}
@@ -27,28 +31,33 @@ use Rattle.sheet.proofs.Numbers.{possible}
 use Rattle.promises.specs.Small.{empty, loop, behind, pair, apart, detour, starting}
 use Rattle.promises.proofs.Small.{small_maps}
 
--- ---- what a sheet says of an answer is said of a number that stands in the engine's line, from engine 1 on
-abbrev Line : ℕ → ℕ → Type 0
-Line n engine = In n (get_or ([] ∷ (0 ∷ 3 ∷ 6 ∷ []) ∷ (0 ∷ 7 ∷ []) ∷ (0 ∷ 3 ∷ 4 ∷ 6 ∷ []) ∷ (0 ∷ 7 ∷ []) ∷ (0 ∷ 7 ∷ []) ∷ (0 ∷ []) ∷ (0 ∷ 3 ∷ 6 ∷ []) ∷ []) engine [])
+-- ---- what a sheet says of an answer is said of a number that stands in the engine's line
+abbrev Line : Engine → ℕ → Type 0
+Line asked.Dijkstra n = In n (0 ∷ 3 ∷ 6 ∷ [])
+Line asked.BellmanFord n = In n (0 ∷ 7 ∷ [])
+Line asked.AStar n = In n (0 ∷ 3 ∷ 4 ∷ 6 ∷ [])
+Line asked.FloydWarshall n = In n (0 ∷ 7 ∷ [])
+Line asked.Johnson n = In n (0 ∷ 7 ∷ [])
+Line asked.Hops n = In n (0 ∷ [])
+Line asked.DijkstraPath n = In n (0 ∷ 3 ∷ 6 ∷ [])
 
-abbrev Told : ℕ → List ℕ → Type 0
-Told engine text = (n : ℕ) × Line n engine × (l : List ℕ) × (text ≡ answer_text n l)
+abbrev Told : Engine → List ℕ → Type 0
+Told engine text = (n : ℕ) × Line engine n × (l : List ℕ) × (text ≡ answer_text n l)
 
-told : {X : Type 0} {gives : ℕ → X → Type 0} {lines : X → List ℕ} {text : List ℕ} (k engine : ℕ) → engine ≡ k → (x : Shown gives lines text) → Line x.number k → Told engine text
-told {lines = lines} k engine e x i = (x.number, subst (Line x.number) (sym e) i, lines x.left, x.says)
+told : {X : Type 0} {gives : ℕ → X → Type 0} {lines : X → List ℕ} {text : List ℕ} (k engine : Engine) → engine ≡ k → (x : Shown gives lines text) → Line k x.number → Told engine text
+told {lines = lines} k engine e x i = (x.number, subst (λ (g : Engine). Line g x.number) (sym e) i, lines x.left, x.says)
 
-told_of : {s : State} {engine source target : ℕ} {text : List ℕ} (a : Answer s engine source target text) → Possible a → Told engine text
-told_of {engine = engine} (dijkstra e x) i = told 1 engine e x i
-told_of {engine = engine} (bellman_ford e x) i = told 2 engine e x i
-told_of {engine = engine} (a_star e x) i = told 3 engine e x i
-told_of {engine = engine} (floyd_warshall e x) i = told 4 engine e x i
-told_of {engine = engine} (johnson e x) i = told 5 engine e x i
-told_of {engine = engine} (hops e f x) i = told 6 engine e x (here i)
-told_of {engine = engine} (hops64 e f x) i = told 6 engine e x (here i)
-told_of {engine = engine} (dijkstra_path e x) i = told 7 engine e x i
+told_of : {s : State} {engine : Engine} {source target : ℕ} {text : List ℕ} (a : Answer s engine source target text) → Possible a → Told engine text
+told_of {engine = engine} (dijkstra e x) i = told asked.Dijkstra engine e x i
+told_of {engine = engine} (bellman_ford e x) i = told asked.BellmanFord engine e x i
+told_of {engine = engine} (a_star e x) i = told asked.AStar engine e x i
+told_of {engine = engine} (floyd_warshall e x) i = told asked.FloydWarshall engine e x i
+told_of {engine = engine} (johnson e x) i = told asked.Johnson engine e x i
+told_of {engine = engine} (hops e f x) i = told asked.Hops engine e x (here i)
+told_of {engine = engine} (hops64 e f x) i = told asked.Hops engine e x (here i)
+told_of {engine = engine} (dijkstra_path e x) i = told asked.DijkstraPath engine e x i
 
-pub engine_tells : (file text : List ℕ) (source target : ℕ) → (read_file file).reading.stage ≡ 4 → Answer (read_file file) (read_file file).reading.engine source target text
-    → Told (read_file file).reading.engine text
+pub engine_tells : (file text : List ℕ) (source target : ℕ) {q : Question} → (read_file file).reading.stage ≡ Asked q → Answer (read_file file) q.engine source target text → Told q.engine text
 engine_tells file text source target ask a = told_of a (possible file ask a)
 
 -- ---- the small maps: there are buffers with which every allowed answer has the number k and xs in front of the slice

@@ -23,7 +23,7 @@ pub const ROW: [u8; 3] = *b"row";
 
 pub const BAD_MAP: [u8; 10] = *b"bad map at";
 
-// Puts a text at a place.
+// Puts a text at a place. Buffer and place stay apart, here and above: docs/EXCEPTIONS.md names these functions.
 pub fn put_bytes(out: &mut [u8], at: usize, text: &[u8]) -> usize
     requires { at + length text.now ≤ length out.old }
     ensures { Printed out.old at text.now out.new result }
@@ -70,6 +70,7 @@ fn put_digits(out: &mut [u8], at: usize, n: u64, places: usize) -> usize
 }
 
 // Puts the last hex digits of a number, as many as places says.
+// No one function with `put_digits`, which leaves zeros in front out: base, digits and zeros as parameters would be no plainer.
 fn put_hex_digits(out: &mut [u8], at: usize, n: u64, places: usize) -> usize
     requires { at + places ≤ length out.old }
     ensures { Printed out.old at (hex places n) out.new result }

@@ -29,12 +29,14 @@ pub enum Record {
         b: u16,
         cost: i32,
     },
+    // the open mark stays a byte, as the lent list of marks has it
     FloatLink {
         a: u16,
         b: u16,
         bits: u64,
         open: u8,
     },
+    // the engine stays a byte: a file may have any
     Ask {
         engine: u8,
         source: u16,
@@ -389,7 +391,7 @@ fn take_link(
     }
 }
 
-// An f64 link: put into the table.
+// An f64 link: put into the table. No one function with `take_link`: the records and the lent tables of the two kinds differ in number.
 #[tactic(auto, unfolding(crate::specs::Load::float_step, crate::specs::Load::after_put))]
 fn take_float(
     w: Reading,

@@ -2,14 +2,15 @@
 -- a put leaves a table that neither 1 nor 2 refuses where it was lent one. So an engine never gives 1 or 2 on it.
 -- Assumes nothing.
 use mathlib.Core.Path.{◌≡◌, refl, sym, ap, ◌∙◌, subst}
-use mathlib.Core.Bool.{Bool, true, false, cond, ◌&&◌}
+use mathlib.Core.Bool.{Bool, true, false, cond, not, ◌&&◌}
 use mathlib.Core.List.{List}
-use Prim.Native.Nat.{ℕ, zero, suc, ◌+◌, ◌≤◌, ◌<◌}
+use Prim.Native.Nat.{ℕ, zero, suc, ◌+◌, ◌≤◌}
 use native.Mathlib.Omega.{arith}
-use borrow.Author.Tests.{ltb-true, eqb-true, leb-true}
+use borrow.Author.Tests.{leb-true}
 use lib.Dec.{ltb, leb, eqb}
+use Rattle.std.proofs.Common.{Result, Ok, Err}
 use lib.ListN.{length, length-set}
-use Rattle.whole.proofs.Cases.{clash, other, by_test, and_left, and_right, not_t}
+use Rattle.whole.proofs.Cases.{clash, by_test, and_left, and_right, not_t}
 use Rattle.clean.proofs.Filled.{filled_length}
 use Rattle.table.specs.Links.{Link, link_of, table_no}
 use Rattle.table.specs.Lent.{room_ints, room_floats, ints_no, floats_no, raw_cost, ints_now, floats_now}
@@ -19,7 +20,13 @@ use Rattle.table.proofs.Tables.{Table}
 use Rattle.table.proofs.Puts.{put_step}
 use Rattle.table.proofs.Slices.{table_of, Follows, follows_ints, follows_floats}
 use Rattle.mapfile.specs.Records.{record_at}
-use Rattle.mapfile.specs.Load.{State, start_reading, state_of, head_step, absent_step, link_may, link_step, after_put, float_step, engine_may, ask_step, take_record, one_step, read_on, loaded}
+use Rattle.mapfile.specs.Engines.{engine_of, has_engine}
+use Rattle.mapfile.specs.Load.{State, start_reading, state_of, at_start, at_head, goes_on, head_step, absent_step, link_may, link_step}
+use Rattle.mapfile.specs.Load.{after_put, float_step, ask_engine, ask_step, take_record, one_step, read_on, loaded}
+use Rattle.mapfile.specs.declared.Engine.{Engine}
+use Rattle.mapfile.specs.declared.Question.{Question}
+use Rattle.mapfile.specs.declared.Stage.{Stage}
+use Rattle.mapfile.specs.declared.Stage.TheVariants.{Start, Headed, Linked, Bad, Asked}
 use Rattle.mapfile.specs.declared.Reading.{Reading}
 use Rattle.mapfile.specs.declared.Record.{Record}
 use Rattle.mapfile.specs.declared.Record.TheVariants.{End, Broken, Head, Absent, Link as LinkRecord, FloatLink, Ask}
@@ -44,6 +51,26 @@ put_good {C} k l d m marks r s g =
     (no_whole m _ (k.room s) marks _ (whole_back (record { indices = w.indices; marked = w.marked; few = p.sound.few })) ∙ ap (λ (b : Bool). cond b 0 2) p.sound.inside)
 
 -- ---- what is read
+-- before the links
+abbrev bare : Stage → Bool
+bare Start = true
+bare Headed = true
+bare _ = false
+
+bare_start : (x : Stage) → at_start x ≡ true → bare x ≡ true
+bare_start Start e = refl
+bare_start Headed e = cc
+bare_start Linked e = cc
+bare_start Bad e = cc
+bare_start (Asked q) e = cc
+
+bare_head : (x : Stage) → at_head x ≡ true → bare x ≡ true
+bare_head Start e = cc
+bare_head Headed e = refl
+bare_head Linked e = cc
+bare_head Bad e = cc
+bare_head (Asked q) e = cc
+
 module _ (s : State) where
   -- an integer map that neither 1 nor 2 refuses, with room for no more than 512 links
   abbrev pub GoodInts : Type 0
@@ -61,11 +88,11 @@ module _ (s : State) where
   pub record Good : Type 0 where
     pub ints : s.reading.float ≡ false → GoodInts
     pub floats : s.reading.float ≡ true → GoodFloats
-    pub early : s.reading.stage < 2 → Bare
+    pub early : bare s.reading.stage ≡ true → Bare
 
 -- where no rule is broken
 abbrev Fine : State → Type 0
-Fine t = (t.reading.stage ≡ 3 → ⊥) → Good t
+Fine t = (t.reading.stage ≡ Bad → ⊥) → Good t
 
 -- a map without links is good
 bare_good : (s : State) → s.reading.bound ≤ 1024 → s.reading.bound ≤ length s.marks → Bare s → Good s
@@ -78,29 +105,30 @@ bare_good s a b e = record {
 -- a link may stand in a map of its kind
 int_may : (w : Reading) → link_may false w ≡ true → w.float ≡ false
 unfolding link_may
-int_may w e = not_t w.float (and_right (ltb 0 w.stage) _ e)
+int_may w e = not_t w.float (and_right (not (at_start w.stage)) _ e)
 
 float_may : (w : Reading) → link_may true w ≡ true → w.float ≡ true
 unfolding link_may
-float_may w e = and_right (ltb 0 w.stage) _ e
+float_may w e = and_right (not (at_start w.stage)) _ e
 
 -- a record
 module _ (len : ℕ) (s : State) (g : Good s) (few : length s.marks ≤ 1024) (marked : s.reading.bound ≤ length s.marks) where
+  abbrev P : Reading → Type 0
+  P w = Fine (state_of w s.marks s.from s.to s.costs s.bits s.opens)
+
   record_good : (r : Record) → Fine (take_record r len s)
   unfolding head_step absent_step link_step float_step ask_step after_put
   record_good End = λ f. absurd (f refl)
   record_good Broken = λ f. absurd (f refl)
   record_good (Head m d x) =
-      by_test Fine (eqb s.reading.stage 0 && leb m (length s.marks)) _ _
-      (λ e _. let l : m ≤ length s.marks = leb-true m _ (and_right (eqb s.reading.stage 0) _ e) in
-      let z : s.reading.stage ≡ 0 = eqb-true _ 0 (and_left (eqb s.reading.stage 0) _ e) in
-      let b = g.early (omega arith) in
+      by_test Fine (at_start s.reading.stage && leb m (length s.marks)) _ _
+      (λ e _. let l : m ≤ length s.marks = leb-true m _ (and_right (at_start s.reading.stage) _ e) in
+      let b = g.early (bare_start s.reading.stage (and_left (at_start s.reading.stage) _ e)) in
       bare_good _ (omega arith) (omega (arith, filled_length m 1 s.marks l)) (refl, b.1, b.2))
       (λ _ f. absurd (f refl))
   record_good (Absent i) =
-      by_test Fine (eqb s.reading.stage 1 && ltb i s.reading.bound) _ _
-      (λ e _. let z : s.reading.stage ≡ 1 = eqb-true _ 1 (and_left (eqb s.reading.stage 1) _ e) in
-      bare_good _ (omega arith) (omega (arith, length-set s.marks i 0)) (g.early (omega arith)))
+      by_test Fine (at_head s.reading.stage && ltb i s.reading.bound) _ _
+      (λ e _. bare_good _ (omega arith) (omega (arith, length-set s.marks i 0)) (g.early (bare_head s.reading.stage (and_left (at_head s.reading.stage) _ e))))
       (λ _ f. absurd (f refl))
   record_good (LinkRecord a b c) =
       by_test Fine (link_may false s.reading) _ _
@@ -114,7 +142,7 @@ module _ (len : ℕ) (s : State) (g : Good s) (few : length s.marks ≤ 1024) (m
           omega (arith, (g.ints n).1, follows_ints.keeps s.reading.directed s.reading.bound s.marks (link_of a b c) lent),
         );
         floats = λ t. absurd (clash t n);
-        early = λ z. absurd (omega arith);
+        early = λ z. cc;
       })
       (λ _ f. absurd (f refl)))
       (λ _ f. absurd (f refl))
@@ -130,26 +158,32 @@ module _ (len : ℕ) (s : State) (g : Good s) (few : length s.marks ≤ 1024) (m
           put_good floats follows_floats s.reading.directed s.reading.bound s.marks (link_of a b (raw_cost x o)) lent (g.floats n).0,
           omega (arith, (g.floats n).1, follows_floats.keeps s.reading.directed s.reading.bound s.marks (link_of a b (raw_cost x o)) lent),
         );
-        early = λ z. absurd (omega arith);
+        early = λ z. cc;
       })
       (λ _ f. absurd (f refl)))
       (λ _ f. absurd (f refl))
   record_good (Ask e source target) =
-      by_test (λ (w : Reading). Fine (state_of w s.marks s.from s.to s.costs s.bits s.opens)) (ltb 0 s.reading.stage && engine_may e s.reading.float) _ _
-      (λ _. by_test (λ (w : Reading). Fine (state_of w s.marks s.from s.to s.costs s.bits s.opens)) (ltb (s.reading.at + 9) len) _ _
-      (λ _ f. absurd (f refl))
-      (λ _ _. record { ints = g.ints; floats = g.floats; early = λ z. absurd (omega arith) }))
-      (λ _ f. absurd (f refl))
+      by_test P (at_start s.reading.stage) _ _ (λ _ f. absurd (f refl)) (λ _. by_engine (engine_of e))
+    where
+      by_engine : (r : Result Engine ℕ) → P (ask_engine len r source target s.reading)
+      by_engine (Ok q) =
+          by_test P (has_engine q s.reading.float) _ _
+          (λ _. by_test P (ltb (s.reading.at + 9) len) _ _ (λ _ f. absurd (f refl)) (λ _ _. record { ints = g.ints; floats = g.floats; early = λ z. cc }))
+          (λ _ f. absurd (f refl))
+      by_engine (Err n) = λ f. absurd (f refl)
+
+-- a reading that goes on breaks no rule
+not_bad : (x : Stage) → goes_on x ≡ true → x ≡ Bad → ⊥
+not_bad x q e = let f : goes_on x ≡ false = ap goes_on e in cc
 
 -- the reading
 reading_good : (k : ℕ) (file : List ℕ) (s : State) → Fine s → length s.marks ≤ 1024 → s.reading.at ≤ length file → s.reading.bound ≤ length s.marks → Fine (read_on k file s)
 unfolding one_step
 reading_good zero file s g few l f = g
 reading_good (suc k) file s g few l f =
-    by_test Fine (ltb s.reading.stage 3) _ _
+    by_test Fine (goes_on s.reading.stage) _ _
     (λ q. let o = keeps_step file s l f in
-    let n = ltb-true s.reading.stage 3 q in
-    reading_good k file (one_step file s) (record_good (length file) s (g (λ z. omega arith)) few f (record_at file s.reading.at)) (omega (arith, o.even)) o.within
+    reading_good k file (one_step file s) (record_good (length file) s (g (not_bad s.reading.stage q)) few f (record_at file s.reading.at)) (omega (arith, o.even)) o.within
     (omega (arith, o.bounded, o.even)))
     (λ _. g)
 
@@ -171,5 +205,5 @@ all_good file =
     start = state_of start_reading (zeros 64) (zeros 512) (zeros 512) (zeros_i 512) (zeros 512) (zeros 512)
 
 -- a file that ends in its ask
-pub file_good : (file : List ℕ) → (read_file file).reading.stage ≡ 4 → Good (read_file file)
-file_good file e = all_good file (λ z. other 4 3 e z (λ w. omega arith))
+pub file_good : (file : List ℕ) {q : Question} → (read_file file).reading.stage ≡ Asked q → Good (read_file file)
+file_good file e = all_good file (λ z. cc)

@@ -1,18 +1,18 @@
 -- Which numbers an engine can give on a map that was read: never 1 or 2, since the map and the buffers are large enough and the links lie within the map; 5 never,
 -- since a heuristic of 0 is fair. What is left are the numbers of specs/Numbers.antt.
 -- Assumes nothing.
-use mathlib.Core.Path.{◌≡◌, refl, ap, ◌∙◌}
+use mathlib.Core.Path.{◌≡◌, refl, sym, ap, ◌∙◌, subst}
 use mathlib.Core.Bool.{Bool, true, false, not, ◌||◌}
 use mathlib.Core.List.{List, [], ◌∷◌}
 use mathlib.Core.Logic.{inl, inr}
 use Prim.Native.Nat.{ℕ, zero, suc, ◌+◌, ◌*◌, ◌≤◌}
 use native.Mathlib.Nat.{mul-le-mul_right}
 use native.Mathlib.Omega.{arith}
-use borrow.Author.Tests.{le-leb, ne_eqb}
+use borrow.Author.Tests.{le-leb}
 use lib.Dec.{leb}
 use lib.IntN.{ℤ, pos}
 use lib.ListN.{get_or-replicate}
-use Rattle.whole.proofs.Cases.{clash, other, by_test, both_of}
+use Rattle.whole.proofs.Cases.{by_test, both_of, not_t}
 use Rattle.numbers.proofs.Numbers.{◌then◌, among}
 use Rattle.walks.specs.Pigeon.{In, here, there}
 use Rattle.table.specs.declared.FloatCost.{FloatCost}
@@ -21,7 +21,11 @@ use Rattle.net.specs.Net.{Net, whole_net, inside_net, most_arcs, most_arcs_of, w
 use Rattle.net.proofs.Nodes.{width_most}
 use Rattle.rows.specs.Scratch.{has_lists}
 use Rattle.search.specs.Lists.{has_memory}
-use Rattle.mapfile.specs.Load.{engine_may}
+use Rattle.mapfile.specs.declared.Engine.{Engine}
+use Rattle.mapfile.specs.declared.Engine.TheVariants as asked
+use Rattle.mapfile.specs.declared.Question.{Question}
+use Rattle.mapfile.specs.declared.Stage.TheVariants.{Asked}
+use Rattle.mapfile.specs.Engines.{has_engine}
 use Rattle.mapfile.proofs.Loads.{loaded_bounded}
 use Rattle.float.specs.Cutoff.{Cutoff}
 use Rattle.dijkstra.specs.Promise as dijkstra
@@ -39,6 +43,7 @@ use Rattle.sheet.specs.Sheet.{read_file, int_map, float_map, Answer}
 use Rattle.sheet.specs.Numbers.{Possible}
 use Rattle.sheet.proofs.Ends.{Ended, broken, asks, file_ends}
 use Rattle.sheet.proofs.Good.{file_good}
+use Rattle.sheet.proofs.Settles.{asked_one}
 
 -- a map that every engine takes with the fresh buffers
 record Small {C : Type 0} (g : Net C) : Type 0 where
@@ -52,7 +57,7 @@ arcs_few : (d : Bool) (n : ℕ) → n ≤ 512 → most_arcs d n ≤ 1024
 unfolding most_arcs
 arcs_few d n h = by_test (λ (a : ℕ). a ≤ 1024) d _ _ (λ _. omega arith) (λ _. omega arith)
 
-module _ (file : List ℕ) (e : (read_file file).reading.stage ≡ 4) where
+module _ (file : List ℕ) {q : Question} (e : (read_file file).reading.stage ≡ Asked q) where
   -- it has at most 64 indices
   bounded : (read_file file).reading.bound ≤ 64
   bounded = loaded_bounded 16384 file (zeros 64) (zeros 512) (zeros 512) (zeros_i 512) (zeros 512) (zeros 512)
@@ -138,43 +143,32 @@ star_numbers {g} {q} {b} {e} {r} k l f x =
     among (λ n. In n (0 ∷ 3 ∷ 4 ∷ 6 ∷ [])) (star.table g q b) (star.result_of r e) r.number
     (inl k then inl l then inr (there (here refl)) then inr (there (there (here refl))) then inl f then inr (there (there (there (here refl)))) then inr (here refl) then tt) x.follows
 
--- ---- the kinds of map that engines want
-int_kind : (e : ℕ) (f : Bool) → engine_may e f ≡ true → e ≤ 5 → f ≡ false
-unfolding engine_may
-int_kind e false m h = refl
-int_kind e true m h = absurd (clash m (simp (ne_eqb e 6 (λ z. omega arith), ne_eqb e 7 (λ z. omega arith))))
-
-float_kind : (e : ℕ) (f : Bool) → engine_may e f ≡ true → e ≡ 7 → f ≡ true
-unfolding engine_may
-float_kind e true m h = refl
-float_kind e false m h = absurd (clash m (ap (λ (n : ℕ). engine_may n false) h ∙ refl))
-
-module _ (file : List ℕ) (ask : (read_file file).reading.stage ≡ 4) where
+module _ (file : List ℕ) {q : Question} (ask : (read_file file).reading.stage ≡ Asked q) where
   -- the map's kind has the engine
-  may : engine_may (read_file file).reading.engine (read_file file).reading.float ≡ true
+  may : has_engine q.engine (read_file file).reading.float ≡ true
   may = go (file_ends 16384 file (zeros 64) (zeros 512) (zeros 512) (zeros_i 512) (zeros 512) (zeros 512))
     where
-      go : Ended (read_file file).reading → engine_may (read_file file).reading.engine (read_file file).reading.float ≡ true
-      go (broken b) = other 3 4 b ask (λ z. omega arith)
-      go (asks a m) = m
+      go : Ended (read_file file).reading → has_engine q.engine (read_file file).reading.float ≡ true
+      go (broken b) = cc
+      go (asks k a m) = let e : k ≡ q = asked_one (sym a ∙ ask) in subst (λ (x : Question). has_engine x.engine (read_file file).reading.float ≡ true) e m
 
-  -- an engine up to 5 has an integer map, 7 an f64 map
-  of_ints : (read_file file).reading.engine ≤ 5 → Small (int_map (read_file file))
-  of_ints h = ints_small file ask (int_kind (read_file file).reading.engine _ may h)
+  -- an engine that wants an integer map has one, and one that wants an f64 map
+  of_ints : {g : Engine} → q.engine ≡ g → ((f : Bool) → has_engine g f ≡ not f) → Small (int_map (read_file file))
+  of_ints h k = ints_small file ask (not_t _ (rw (h, k) at may))
 
-  of_floats : (read_file file).reading.engine ≡ 7 → Small (float_map (read_file file))
-  of_floats h = floats_small file ask (float_kind (read_file file).reading.engine _ may h)
+  of_floats : q.engine ≡ asked.DijkstraPath → Small (float_map (read_file file))
+  of_floats h = floats_small file ask (rw h at may)
 
   -- the numbers that are possible
-  pub possible : {source target : ℕ} {text : List ℕ} (a : Answer (read_file file) (read_file file).reading.engine source target text) → Possible a
+  pub possible : {source target : ℕ} {text : List ℕ} (a : Answer (read_file file) q.engine source target text) → Possible a
   unfolding dijkstra.long_enough bellman.long_enough star.long_enough has_memory floyd.enough johnson.long_enough hops.long_enough path.long_enough has_lists
-  possible (sheet.dijkstra e x) = let k = of_ints (omega arith) in dijkstra_numbers (simp (k.whole, slots k, offsets k, arcs k)) k.inside x.promise
-  possible (sheet.bellman_ford e x) = let k = of_ints (omega arith) in bellman_numbers (simp (k.whole, slots k, offsets k, arcs k)) k.inside x.promise
+  possible (sheet.dijkstra e x) = let k = of_ints e (λ f. refl) in dijkstra_numbers (simp (k.whole, slots k, offsets k, arcs k)) k.inside x.promise
+  possible (sheet.bellman_ford e x) = let k = of_ints e (λ f. refl) in bellman_numbers (simp (k.whole, slots k, offsets k, arcs k)) k.inside x.promise
   possible (sheet.a_star e x) =
-      let k = of_ints (omega arith) in
+      let k = of_ints e (λ f. refl) in
       star_numbers (simp (k.whole, slots k, offsets k, arcs k)) k.inside (fair_zeros (has (int_map (read_file file))) (read_file file).reading.bound k.few) x.promise
-  possible (sheet.floyd_warshall e x) = let k = of_ints (omega arith) in pairs_numbers (simp (k.whole, slots k, cells k)) k.inside x.promise
-  possible (sheet.johnson e x) = let k = of_ints (omega arith) in pairs_numbers (simp (k.whole, slots k, offsets k, arcs k, cells k)) k.inside x.promise
+  possible (sheet.floyd_warshall e x) = let k = of_ints e (λ f. refl) in pairs_numbers (simp (k.whole, slots k, cells k)) k.inside x.promise
+  possible (sheet.johnson e x) = let k = of_ints e (λ f. refl) in pairs_numbers (simp (k.whole, slots k, offsets k, arcs k, cells k)) k.inside x.promise
   possible (sheet.hops e f x) = let k = ints_small file ask f in hops_numbers (simp (k.whole, slots k, offsets k, arcs k, nodes k, cells k)) k.inside x.promise
   possible (sheet.hops64 e f x) = let k = floats_small file ask f in hops_numbers (simp (k.whole, slots k, offsets k, arcs k, nodes k, cells k)) k.inside x.promise
   possible (sheet.dijkstra_path e x) = let k = of_floats e in path_numbers (simp (k.whole, slots k, offsets k, arcs k)) k.inside x.promise

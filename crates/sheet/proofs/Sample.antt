@@ -9,8 +9,11 @@ use Rattle.table.specs.Links.{link_of, same_pair, joins_ends, present, present_b
 use Rattle.table.specs.Lent.{shorter, room_ints, store_ints, put_ints}
 use Rattle.net.specs.Net.{links_of}
 use Rattle.mapfile.specs.Bytes.{u16_at, u32_at, cost_of}
-use Rattle.mapfile.specs.Records.{head_at, link_at, ask_at, kind_at, record_at}
-use Rattle.mapfile.specs.Load.{head_step, link_may, after_put, link_step, engine_may, ask_step, one_step, loaded}
+use Rattle.mapfile.specs.Records.{head_at, kind_at, record_at}
+use Rattle.mapfile.specs.Load.{head_step, link_may, after_put, link_step, ask_step, one_step, loaded}
+use Rattle.mapfile.specs.Engines.{engine_of}
+use Rattle.mapfile.specs.declared.Engine.TheVariants.{BellmanFord}
+use Rattle.mapfile.specs.declared.Stage.TheVariants.{Asked}
 use Rattle.sheet.specs.Sheet.{read_file, int_map}
 
 -- its 53 bytes: the head, three links, the ask
@@ -23,9 +26,9 @@ sample =
     ∷ 7 ∷ 0 ∷ 5 ∷ 0 ∷ 2 ∷ 0 ∷ 0 ∷ 0 ∷ 0
     ∷ []
 
--- the stage and the engine, and the links
-pub sample_read : ((read_file sample).reading.stage ≡ 4) × ((read_file sample).reading.engine ≡ 2)
+-- the ask, and the links
+pub sample_read : ((read_file sample).reading.stage ≡ Asked (record { engine = BellmanFord; source = 0; target = 0 }))
     × (links_of (int_map (read_file sample)) ≡ link_of 0 1 (pos 5) ∷ link_of 1 2 (negsuc 1) ∷ link_of 0 2 (pos 4) ∷ [])
 unfolding filled same_pair joins_ends present present_both lent_whole table_no place_at placing shorter room_ints store_ints put_ints
-    u16_at u32_at cost_of head_at link_at ask_at kind_at record_at head_step link_may after_put link_step engine_may ask_step one_step loaded
-sample_read = (refl, refl, refl)
+    u16_at u32_at cost_of head_at kind_at record_at head_step link_may after_put link_step engine_of ask_step one_step loaded
+sample_read = (refl, refl)

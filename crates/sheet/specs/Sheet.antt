@@ -3,6 +3,11 @@
 use Rattle.std.specs.Prelude.{◌≡◌, true, false, List, ℕ, ℤ}
 use Rattle.table.specs.declared.FloatCost.{FloatCost}
 use Rattle.net.specs.Net.{Net, net_of, net_of64}
+use Rattle.mapfile.specs.declared.Engine.{Engine}
+use Rattle.mapfile.specs.declared.Engine.TheVariants as asked
+use Rattle.mapfile.specs.declared.Question.{Question}
+use Rattle.mapfile.specs.declared.Stage.TheVariants.{Bad, Asked}
+use Rattle.mapfile.specs.Engines.{number_of}
 use Rattle.mapfile.specs.Load.{State, loaded}
 use Rattle.text.specs.Text.{sound_text, bad_text}
 use Rattle.answers.specs.Answers.{zeros, zeros_i, Dijkstra, BellmanFord, AStar, FloydWarshall, Johnson, Hops, DijkstraPath}
@@ -20,25 +25,25 @@ abbrev pub float_map : State → Net FloatCost
 float_map s = net_of64 s.reading.bound s.reading.count s.reading.directed s.marks s.from s.to s.bits s.opens
 
 -- the answer of the engine that is asked; of source and target an engine sees what its line names
-pub data Answer (s : State) (engine source target : ℕ) (text : List ℕ) : Type 0 where
-  dijkstra : engine ≡ 1 → Dijkstra (int_map s) source text → Answer s engine source target text
-  bellman_ford : engine ≡ 2 → BellmanFord (int_map s) source text → Answer s engine source target text
-  a_star : engine ≡ 3 → AStar (int_map s) source target text → Answer s engine source target text
-  floyd_warshall : engine ≡ 4 → FloydWarshall (int_map s) text → Answer s engine source target text
-  johnson : engine ≡ 5 → Johnson (int_map s) text → Answer s engine source target text
-  hops : engine ≡ 6 → s.reading.float ≡ false → Hops (int_map s) text → Answer s engine source target text
-  hops64 : engine ≡ 6 → s.reading.float ≡ true → Hops (float_map s) text → Answer s engine source target text
-  dijkstra_path : engine ≡ 7 → DijkstraPath (float_map s) source text → Answer s engine source target text
+pub data Answer (s : State) (engine : Engine) (source target : ℕ) (text : List ℕ) : Type 0 where
+  dijkstra : engine ≡ asked.Dijkstra → Dijkstra (int_map s) source text → Answer s engine source target text
+  bellman_ford : engine ≡ asked.BellmanFord → BellmanFord (int_map s) source text → Answer s engine source target text
+  a_star : engine ≡ asked.AStar → AStar (int_map s) source target text → Answer s engine source target text
+  floyd_warshall : engine ≡ asked.FloydWarshall → FloydWarshall (int_map s) text → Answer s engine source target text
+  johnson : engine ≡ asked.Johnson → Johnson (int_map s) text → Answer s engine source target text
+  hops : engine ≡ asked.Hops → s.reading.float ≡ false → Hops (int_map s) text → Answer s engine source target text
+  hops64 : engine ≡ asked.Hops → s.reading.float ≡ true → Hops (float_map s) text → Answer s engine source target text
+  dijkstra_path : engine ≡ asked.DijkstraPath → DijkstraPath (float_map s) source text → Answer s engine source target text
 
 -- `engine E`; then the answer; then `end`
-pub record Sound (s : State) (text : List ℕ) : Type 0 where
+pub record Sound (s : State) (q : Question) (text : List ℕ) : Type 0 where
   pub answer : List ℕ
-  pub gives : Answer s s.reading.engine s.reading.source s.reading.target answer
-  pub says : text ≡ sound_text s.reading.engine answer
+  pub gives : Answer s q.engine q.source q.target answer
+  pub says : text ≡ sound_text (number_of q.engine) answer
 
 -- the text for a file
 pub data Sheet (file text : List ℕ) : Type 0 where
   -- a rule is broken at K: the single line `bad map at K`
-  bad : (read_file file).reading.stage ≡ 3 → text ≡ bad_text (read_file file).reading.at → Sheet file text
+  bad : (read_file file).reading.stage ≡ Bad → text ≡ bad_text (read_file file).reading.at → Sheet file text
   -- the file ends in its ask
-  sound : (read_file file).reading.stage ≡ 4 → Sound (read_file file) text → Sheet file text
+  sound : {q : Question} → (read_file file).reading.stage ≡ Asked q → Sound (read_file file) q text → Sheet file text

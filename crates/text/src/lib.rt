@@ -276,6 +276,7 @@ fn print_reached(out: &mut [u8], at: usize, dist: &[u64], preds: &[u32], i: usiz
 }
 
 // Puts a line `index bits predecessor` for each index that the map has.
+// No one loop with `print_distances`: a closure that prints needs clauses over the buffer, which is no plainer than three lines.
 pub fn print_tree(
     out: &mut [u8],
     at: usize,

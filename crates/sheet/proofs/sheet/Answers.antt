@@ -1,19 +1,14 @@
 -- `sheet::sheet` meets its contract: by how the reading ended.
 -- Assumes nothing.
 use native.Mathlib.Omega.{arith}
-use Rattle.sheet.proofs.Puts.{sheet_bad, ready, sheet_sound}
+use Rattle.sheet.proofs.Puts.{few, sheet_bad, sheet_sound}
 use Rattle.sheet.proofs.sheet.Goals as goal
 
-pub returns-then-w-eq3 : goal.returns-then-w-eq3
-returns-then-w-eq3 c =
-    let g = sheet_bad c.args.file.now c.load-w.ensures c.if-w-eq3.true (omega (arith, c.print_bad.auto)) c.print_bad.ensures in record { written = g.0; upper_bound = g.1 }
-
 pub print_sound-requires : goal.print_sound-requires
-print_sound-requires c =
-    let r = ready c.args.file.now c.load-w.ensures c.if-w-eq3.false in
-    (r.0, r.1, omega (arith, r.1, c.load-w.auto), omega arith)
+print_sound-requires c = let h = few c.args.file.now c.load-w.ensures in (h, omega (arith, h), omega arith)
 
-pub returns : goal.returns
-returns c =
-    let g = sheet_sound c.args.file.now c.load-w.ensures c.if-w-eq3.false (omega (arith, c.print_sound.auto)) (c.print_sound.ensures.written, c.print_sound.ensures.upper_bound) in
-    record { written = g.0; upper_bound = g.1 }
+pub returns-in-Asked-clause-written : goal.returns-in-Asked-clause-written
+returns-in-Asked-clause-written c = sheet_sound c.args.file.now c.load-w.ensures c.in-Asked.is c.print_sound.ensures.written
+
+pub returns-in_default-clause-written : goal.returns-in_default-clause-written
+returns-in_default-clause-written c = sheet_bad c.args.file.now c.load-w.ensures c.in_default.not-Asked c.print_bad.ensures.printed
