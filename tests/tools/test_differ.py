@@ -179,8 +179,8 @@ pub struct Rows<'a, W> {
     pub rows: &'a mut [W],
 }
 
-impl<'a, W: Copy> Rows<'a, W> {
-    pub fn wipe(&mut self, zero: W) -> Option<usize>
+impl<'a, E: Copy> Rows<'a, E> {
+    pub fn wipe(&mut self, zero: E) -> Option<usize>
     {
         None
     }
@@ -319,7 +319,7 @@ wrong: rows = 4
     put_u8s(host, &rows, usize::MAX)?;
     print!(host; "\\n")?;
 """, "rows = 3\n", "rows = 4\n"),
-    ("Rows::wipe", """input: W = u32
+    ("Rows::wipe", """input: E = u32
 input: zero = clean::NONE_U32
 right: result = some 3
 right: rows = none 7 ..
@@ -343,7 +343,7 @@ wrong: rows = 7 7 ..
     put_u32s(host, &rows, 2)?;
     print!(host; "\\n")?;
 """, "result = some 3\nrows = 4294967295 7\n", "result = none\nrows = 7 7\n"),
-    ("Rows::is_long", """input: W = i64
+    ("Rows::is_long", """input: E = i64
 input: starts = [1]
 input: rows = [none]
 input: n = 5
