@@ -1,3 +1,4 @@
 pub mod Rooms
+pub mod Widths
 pub mod Says
 pub mod Settles

@@ -75,27 +75,29 @@ fn rounds(cells: &mut [i64], p: usize) -> bool
     requires { Begun p cells.old }
     ensures { Rounded p cells.old cells.new result }
 {
-    for k in 0..p {
+    let mut below = false;
+    'rounds: for k in 0..p {
         let through = k * p;
         let falls = any_below(cells, through, 1, p);
-        for i in 0..p {
+        'rows: for i in 0..p {
             let row = i * p;
             let a = cells[row + k];
             if reaches(falls, a) {
                 let mut j = 0;
 
                 // No counting loop: each block tells how many columns it was.
-                while j < p {
+                'columns: while j < p {
                     j += lower_next(cells, row + j, through + j, a, p - j);
                     let diagonal = cells[row + i];
                     if diagonal < 0 {
-                        return true;
+                        below = true;
+                        break 'rounds;
                     }
                 }
             }
         }
     }
-    false
+    below
 }
 
 // No arcs yet: the large number for each pair, but 0 on the diagonal.

@@ -11,7 +11,7 @@ use native.Mathlib.Omega.{arith}
 use lib.ListN.{length, get_or, take, length-append}
 use Rattle.lines.specs.Text.{Printed}
 use Rattle.lines.proofs.Places.{no_byte, printed_more, printed_length}
-use Rattle.text.specs.Text.{field, with_fields, each_index}
+use Rattle.text.specs.Text.{field, with_fields, entries, each_index}
 
 -- what holds before each turn
 pub record Listing (text : ℕ → List ℕ) (most : ℕ) (out₀ : List ℕ) (at m : ℕ) (out : List ℕ) (next i : ℕ) : Type 0 where
@@ -73,3 +73,12 @@ module _ {A : Type 0} (show : A → List ℕ) where
 -- a line from its first text and its further fields, each printed by itself
 pub fields_split : (t : List ℕ) (fs : List (List ℕ)) → with_fields t fs ≡ t ++ with_fields [] fs
 fields_split t fs = ap (λ (x : List ℕ). with_fields x fs) (sym (append-nil t)) ∙ fields_after t [] fs
+
+-- n fields of at most w bytes each
+pub entries_width : {A : Type 0} (show : A → List ℕ) (w : ℕ) → ((x : A) → length (show x) ≤ w) → (n : ℕ) (l : List A) → length (entries show n l) ≤ n * (w + 1)
+entries_width {A} show w h n l = omega (arith, go [] n l)
+  where
+    go : (t : List ℕ) (n : ℕ) (l : List A) → length (with_fields t (map show (take n l))) ≤ length t + n * (w + 1)
+    go t zero l = omega arith
+    go t (suc n) [] = omega arith
+    go t (suc n) (x ∷ l) = omega (arith, go (t ++ field (show x)) n l, length-append t (field (show x)), h x)

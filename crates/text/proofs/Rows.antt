@@ -2,17 +2,18 @@
 -- Assumes nothing.
 use mathlib.Core.Path.{◌≡◌, sym, ap, ◌∙◌}
 use mathlib.Core.Bool.{Bool, true, false}
-use mathlib.Core.List.{List, ◌∷◌, map}
+use mathlib.Core.List.{List, [], ◌∷◌, ◌++◌, map}
 use Prim.Native.Nat.{ℕ, ◌+◌, ◌*◌, ◌≤◌, ◌<◌}
 use native.Mathlib.Nat.{mul-le-mul_right}
 use native.Mathlib.Numerals.{add-one}
 use native.Mathlib.Omega.{arith}
-use lib.ListN.{length, take, drop, length-drop}
+use lib.ListN.{length, take, drop, length-append, length-drop}
 use lib.Seq.{drop-drop}
 use Rattle.net.proofs.Nodes.{count_absent, count_present_lem, ranked}
-use Rattle.lines.specs.Text.{Printed, decimal_text, row_text}
-use Rattle.text.specs.Text.{each_index, line, width, row_line}
-use Rattle.text.proofs.Lines.{Listing, listing_skip, listing_more, each_yes, each_no}
+use Rattle.lines.specs.Text.{Printed, decimal_text, newline_text, row_text}
+use Rattle.lines.proofs.Digits.{decimal_text_length}
+use Rattle.text.specs.Text.{field, with_fields, each_index, line, width, row_line}
+use Rattle.text.proofs.Lines.{Listing, listing_skip, listing_more, each_yes, each_no, fields_split, entries_width}
 
 module _ {A : Type 0} (show : A → List ℕ) (w : ℕ) (has : ℕ → Bool) (m : ℕ) (matrix : List A) where
   -- the line of an index, and how long it can be
@@ -21,6 +22,22 @@ module _ {A : Type 0} (show : A → List ℕ) (w : ℕ) (has : ℕ → Bool) (m 
 
   abbrev pub most_row : ℕ
   most_row = width has m * (w + 1) + 25
+
+  -- it is no longer, where no entry takes more than w bytes
+  pub row_width : (slim : (x : A) → length (show x) ≤ w) (i : ℕ) → length (row_at i) ≤ most_row
+  row_width slim i =
+      let l = drop (width has i * width has m) matrix in
+      let t = row_text ++ field (decimal_text i) in
+      let fs = map show (take (width has m) l) in
+      omega (
+        arith,
+        length-append (with_fields t fs) newline_text,
+        ap length (fields_split t fs),
+        length-append t (with_fields [] fs),
+        length-append row_text (field (decimal_text i)),
+        decimal_text_length i,
+        entries_width show w slim (width has m) l,
+      )
 
   -- what holds before each turn
   pub record Rowing (out₀ : List ℕ) (at : ℕ) (out : List ℕ) (next : ℕ) (rest : List A) (i : ℕ) : Type 0 where
