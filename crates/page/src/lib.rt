@@ -70,10 +70,13 @@ fn arc_holds(page: &[i64], met: &mut [u8], u: usize, v: usize, cost: i32) -> boo
         return false;
     }
     let next = page[u] + i64::from(cost);
-    if page[v] == next {
+    if next < page[v] {
+        return false;
+    }
+    if next == page[v] {
         met[v] = 1;
     }
-    page[v] <= next
+    true
 }
 
 // Do the arcs of the link i hold: one if directed, else one each way?
