@@ -4,6 +4,9 @@
 // Then a line for each limit, with the number given.
 #![tactic(auto)]
 
+ghost use Rattle.std.specs.Prelude.{IfOk};
+ghost use Rattle.std.specs.Counts.{IsPrefixLen};
+
 mod floats;
 mod ints;
 mod limits;
@@ -79,11 +82,21 @@ fn replay(rt: &impl Print, list: &[u8]) -> io::Result<()> {
     println!(rt; "lines that are no case: {faults}")
 }
 
-// Reads until the buffer is full or the input ends, however few bytes come at a time, and gives what was read.
+// Reads until the buffer is full or the input ends, however few bytes come at a time, and gives how many were read.
 // Each program has its own: a crate that they share would be longer.
-fn read_full(from: Stdin, buf: &mut [u8]) -> io::Result<&[u8]> {
-    let n = io::copy(&mut from.take(buf.len() as u64), &mut &mut buf[..])? as usize;
-    Ok(&buf[..n.min(buf.len())])
+fn read_full(mut from: Stdin, buf: &mut [u8]) -> io::Result<usize>
+    ensures { IfOk result (λ n. IsPrefixLen n buf.new) }
+{
+    let mut done = 0;
+    // no `for`: each read tells how many bytes it was
+    while done < buf.len() {
+        let more = from.read(&mut buf[done..])?;
+        if more == 0 {
+            break;
+        }
+        done += more;
+    }
+    Ok(done)
 }
 
 // Room for the list. A function of its own, so that no proof spells out this many zeros.
@@ -94,11 +107,11 @@ fn room() -> [u8; ROOM] {
 // Reads the list and replays it.
 fn replay_input(rt: &HostRuntime) -> io::Result<()> {
     let mut space = room();
-    let list = read_full(rt.stdin(), &mut space)?;
-    if list.len() == ROOM {
+    let size = read_full(rt.stdin(), &mut space)?;
+    if size == ROOM {
         println!(rt; "the list fills its room")?;
     }
-    replay(rt, list)
+    replay(rt, &space[..size])
 }
 
 fn main(rt: HostRuntime) -> io::Result<()> {
