@@ -2,7 +2,7 @@
 // What it promises is said once, over the kind of search that the rule is (turns).
 #![tactic(auto)]
 
-ghost use Rattle.std.specs.Prelude.{◌≡◌, false, ◌⊎◌, ◌-◌, ◌<◌, length, get_or, set, MatchOption};
+ghost use Rattle.std.specs.Prelude.{◌≡◌, false, ◌⊎◌, [], ◌∷◌, ◌-◌, ◌<◌, pos, length, get_or, set, MatchOption};
 ghost use Rattle.std.proofs.Math.Option.{none};
 ghost use Rattle.bag.specs.Bag.{Bag};
 ghost use Rattle.bag.specs.Content.{content_of, IsLeast};
@@ -22,6 +22,7 @@ ghost use Rattle.turns.specs.Firsts.{EnoughMemory, KeptMemory, Ran};
 ghost use Rattle.turns.proofs.Right.{Way, Right};
 ghost use Rattle.search.specs.Target.{target_in};
 ghost use Rattle.search.specs.Found.{number_of, takes_of};
+ghost use Rattle.search.specs.Ints.{guided};
 ghost use Rattle.search.specs.Runs.{Cheap, ToAll};
 ghost use Rattle.search.specs.Lists.{has_memory, wiped_with, bag_wiped, memory_in, SameMemory};
 ghost use Rattle.search.specs.Check.{check_no};
@@ -372,7 +373,7 @@ pub fn run<'a, 'b, R: Rule>(
     )
 }
 
-// The least totals from a source to all indices below m: no heuristic, no target.
+// The least totals from a source to all indices below m: no heuristic, no target. Gives how many pairs were taken and not dropped.
 pub fn to_all<'a, 'b>(
     m: usize,
     source: usize,
@@ -382,6 +383,8 @@ pub fn to_all<'a, 'b>(
     requires cheap { Cheap m (neighbours_in rows) }
     requires source_lt_m { (source < m) × EnoughMemory m (memory_in memory.old) }
     ensures to_all { ToAll (RowArc m (neighbours_in rows.entry)) m source memory.old.dist.now memory.new.dist.now (number_of result) }
+    ensures ran { Ran (guided (pos 0 ∷ [])) m none source
+        (neighbours_in rows.entry) (memory_in memory.old) (memory_in memory.new) (number_of result) (takes_of result) }
     ensures kept_memory { KeptMemory m (memory_in memory.old) (memory_in memory.new) }
     ensures same { SameMemory memory.old memory.new }
 {
