@@ -15,7 +15,7 @@ ghost use Rattle.a_star.specs.Parts.{question_no, refusal_no, EnoughScratch, Can
 
 use net::{Ints, Lent};
 use numbers::Refusal;
-use rows::Lists;
+use rows::{Lists, Neighbours};
 use search::{BadCost, Guided, Memory};
 
 // A path that was found: its cost, and how many indices it has.
@@ -122,12 +122,21 @@ fn seek(
     ensures same_memory { SameMemory memory.old memory.new }
 {
     rows::position_csr(net, lists);
+    // each is lent `&mut` and then shared: a `&` of a field gets no generated proof here
+    let offsets = &mut *lists.offsets;
+    let heads = &mut *lists.heads;
+    let weights = &mut *lists.weights;
+    let rows = Neighbours {
+        offsets,
+        heads,
+        weights,
+    };
     search::run(
         Guided { guess },
         net.map.bound,
         source,
         Some(target),
-        lists,
+        rows,
         memory,
     )
 }

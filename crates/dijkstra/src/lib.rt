@@ -10,7 +10,7 @@ ghost use Rattle.dijkstra.specs.Promise.{Promise, buffers_in};
 
 use net::{Ints, Lent};
 use numbers::Refusal;
-use rows::Lists;
+use rows::{Lists, Neighbours};
 use search::Memory;
 
 // The least totals from a source, in the distances. The promise is in specs/Promise.antt.
@@ -29,7 +29,16 @@ pub fn dijkstra(
     let m = net.map.bound;
     let a = net.most_arcs();
     rows::position_csr(net, lists);
-    let found = search::to_all(m, source, lists, memory);
+    // each is lent `&mut` and then shared: a `&` of a field gets no generated proof here
+    let offsets = &mut *lists.offsets;
+    let heads = &mut *lists.heads;
+    let weights = &mut *lists.weights;
+    let rows = Neighbours {
+        offsets,
+        heads,
+        weights,
+    };
+    let found = search::to_all(m, source, rows, memory);
     lists.wipe(m, a, 0);
     memory.wipe_bag(m, 0);
     clean::fill(memory.preds, m, 0);

@@ -11,7 +11,7 @@ ghost use Rattle.dijkstra_path.specs.Promise.{Promise, buffers_in};
 
 use net::{Floats, Lent};
 use numbers::Refusal;
-use rows::Lists;
+use rows::{Lists, Neighbours};
 use search::{Limited, Memory};
 
 // Distances and predecessors from a source over the open arcs, up to a cutoff, in the memory. The promise is in specs/Promise.antt.
@@ -32,7 +32,16 @@ pub fn dijkstra_path_impl(
     let a = net.most_arcs();
     rows::position_csr(net, lists);
     let limit = float::limit(cutoff);
-    let found = search::run(Limited { limit }, m, source, None, lists, memory);
+    // each is lent `&mut` and then shared: a `&` of a field gets no generated proof here
+    let offsets = &mut *lists.offsets;
+    let heads = &mut *lists.heads;
+    let weights = &mut *lists.weights;
+    let rows = Neighbours {
+        offsets,
+        heads,
+        weights,
+    };
+    let found = search::run(Limited { limit }, m, source, None, rows, memory);
     lists.wipe(m, a, 0);
     memory.wipe_bag(m, 0);
     match found {

@@ -18,7 +18,7 @@ ghost use Rattle.johnson.specs.Parts.{Ripe, Prepared, refusal_no, Passed, Solved
 
 use net::{Ints, Lent};
 use numbers::Refusal;
-use rows::Lists;
+use rows::{Lists, Neighbours};
 use search::Memory;
 
 // A look at an arc from u to v: the potential of v falls, or stays. Did it fall?
@@ -185,11 +185,16 @@ fn fill(
     ensures kept { KeptMemory m (memory_in memory.old) (memory_in memory.new) }
     ensures same { SameMemory memory.old memory.new }
 {
+    let rows = Neighbours {
+        offsets: &*lists.offsets,
+        heads: &*lists.heads,
+        weights: &*lists.weights,
+    };
     let mut i = 0;
     for u in 0..m {
         if marks[u] != 0 {
             // no weight is below zero, so no cost is bad
-            let _ = search::to_all(m, u, lists, memory);
+            let _ = search::to_all(m, u, rows, memory);
             show_row(m, i * p, u, marks, heights, memory, matrix);
             i += 1;
         }

@@ -2,13 +2,13 @@
 // What it promises is said once, over the kind of search that the rule is (turns).
 #![tactic(auto)]
 
-ghost use Rattle.std.specs.Prelude.{◌≡◌, false, ◌⊎◌, ◌-◌, ◌<◌, length, get_or, set, MatchOption};
+ghost use Rattle.std.specs.Prelude.{◌≡◌, false, ◌⊎◌, [], ◌∷◌, ◌-◌, ◌<◌, pos, length, get_or, set, MatchOption};
 ghost use Rattle.std.proofs.Math.Option.{none};
 ghost use Rattle.bag.specs.Bag.{Bag};
 ghost use Rattle.bag.specs.Content.{content_of, IsLeast};
 ghost use Rattle.clean.specs.Fill.{filled};
 ghost use Rattle.clean.specs.None.{none_u32};
-ghost use Rattle.rows.specs.Rows.{lists_in};
+ghost use Rattle.rows.specs.Rows.{lists_in, neighbours_in};
 ghost use Rattle.net.specs.Net.{net_in};
 ghost use Rattle.numbers.specs.Refusal.{number_of as refusal_no};
 ghost use Rattle.numbers.specs.declared.Refusal.TheVariants.{BadCost as Bad};
@@ -22,6 +22,7 @@ ghost use Rattle.turns.specs.Firsts.{EnoughMemory, KeptMemory, Ran};
 ghost use Rattle.turns.proofs.Right.{Way, Right};
 ghost use Rattle.search.specs.Target.{target_in};
 ghost use Rattle.search.specs.Found.{number_of, takes_of};
+ghost use Rattle.search.specs.Ints.{guided};
 ghost use Rattle.search.specs.Runs.{Cheap, ToAll};
 ghost use Rattle.search.specs.Lists.{has_memory, wiped_with, bag_wiped, memory_in, SameMemory};
 ghost use Rattle.search.specs.Check.{check_no};
@@ -29,7 +30,7 @@ ghost use Rattle.search.specs.Check.{check_no};
 use bag::Key;
 use net::{Costs, Lent};
 use numbers::Refusal;
-use rows::Lists;
+use rows::{Lists, Neighbours};
 
 mod floats;
 mod ints;
@@ -107,17 +108,27 @@ pub struct Memory<'a, K> {
     pub keys: &'a mut [K],
 }
 
+// Has each list of a search m entries?
+#[tactic(auto, unfolding(crate::specs::Lists::has_memory))]
+pub fn has_memory<K: Copy>(
+    m: usize,
+    dist: &[K],
+    preds: &[u32],
+    peaks: &[usize],
+    words: &[usize],
+    keys: &[K],
+) -> bool
+    ensures { result ≡ has_memory m (memory_of dist.now preds.now peaks.now words.now keys.now) }
+{
+    m <= dist.len() && m <= preds.len() && m <= peaks.len() && m <= words.len() && m <= keys.len()
+}
+
 impl<'a, K: Copy> Memory<'a, K> {
     // Has each list m entries?
-    #[tactic(auto, unfolding(crate::specs::Lists::has_memory))]
     pub fn long_enough(&self, m: usize) -> bool
         ensures { result ≡ has_memory m (memory_in self.now) }
     {
-        m <= self.dist.len()
-            && m <= self.preds.len()
-            && m <= self.peaks.len()
-            && m <= self.words.len()
-            && m <= self.keys.len()
+        has_memory(m, self.dist, self.preds, self.peaks, self.words, self.keys)
     }
 
     // Zero in the first m entries of each list, of which it is told for the distances and the keys.
@@ -229,26 +240,27 @@ fn look_row<'a, 'b, R: Rule>(
     m: usize,
     u: usize,
     pending: usize,
-    lists: &Lists<'a, R::Cost>,
+    rows: Neighbours<'a, R::Cost>,
     memory: &mut Memory<'b, R::Key>,
 ) -> Option<usize>
-    requires opens { Opens (ordered R.Key.kind (R.kind rule)) m (lists_in lists.now) u pending (memory_in memory.old) }
-    requires row_in_range { RowInRange (ordered R.Key.kind (R.kind rule)) (R.asks rule) m (lists_in lists.now) u
+    requires opens { Opens (ordered R.Key.kind (R.kind rule)) m (neighbours_in rows) u pending (memory_in memory.old) }
+    requires row_in_range { RowInRange (ordered R.Key.kind (R.kind rule)) (R.asks rule) m (neighbours_in rows) u
         (get_or memory.old.dist.now u (R.kind rule).blank) }
     ensures row { let kind = ordered R.Key.kind (R.kind rule) in
-        let arcs = lists_in lists.now in
+        let arcs = neighbours_in rows.entry in
         MatchOption result (BadArc kind m arcs u)
         (RowDone kind m arcs u (memory_in memory.old) (memory_in memory.new)) }
     ensures same { SameMemory memory.old memory.new }
 {
+    let (offsets, heads, weights) = (rows.offsets, rows.heads, rows.weights);
     let d = memory.dist[u];
     let mut size = pending;
-    for i in lists.offsets[u]..lists.offsets[u + 1] {
-        let cost = lists.weights[i];
+    for i in offsets[u]..offsets[u + 1] {
+        let cost = weights[i];
         if rule.is_bad(cost) {
             return None;
         }
-        let v = usize::from(lists.heads[i]);
+        let v = usize::from(heads[i]);
         size = look_arc(rule, u, d, v, cost, size, memory);
     }
     Some(size)
@@ -276,13 +288,13 @@ fn search<'a, 'b, R: Rule>(
     m: usize,
     source: usize,
     target: Option<usize>,
-    lists: &Lists<'a, R::Cost>,
+    rows: Neighbours<'a, R::Cost>,
     memory: &mut Memory<'b, R::Key>,
 ) -> Result<usize, BadCost>
-    requires fit { (R.asks rule).fit m source target (lists_in lists.now) }
+    requires fit { (R.asks rule).fit m source target (neighbours_in rows) }
     requires fresh { Fresh (ordered R.Key.kind (R.kind rule)) m (memory_in memory.old) }
     ensures searched { Searched (ordered R.Key.kind (R.kind rule)) m (target_in m target) source
-        (lists_in lists.now) (memory_in memory.new) (number_of result) (takes_of result) }
+        (neighbours_in rows.entry) (memory_in memory.new) (number_of result) (takes_of result) }
     ensures same { SameMemory memory.old memory.new }
 {
     let mut size = start(rule, source, memory);
@@ -294,7 +306,7 @@ fn search<'a, 'b, R: Rule>(
         if target == Some(u) {
             return Ok(takes);
         }
-        match look_row(rule, m, u, size - 1, lists, memory) {
+        match look_row(rule, m, u, size - 1, rows, memory) {
             Some(left) => size = left,
             None => return Err(BadCost { takes }),
         }
@@ -308,17 +320,17 @@ fn search_part<'a, 'b, R: Rule>(
     m: usize,
     source: usize,
     target: Option<usize>,
-    lists: &Lists<'a, R::Cost>,
+    rows: Neighbours<'a, R::Cost>,
     dist: &'b mut [R::Key],
     preds: &'b mut [u32],
     peaks: &'b mut [usize],
     words: &'b mut [usize],
     keys: &'b mut [R::Key],
 ) -> Result<usize, BadCost>
-    requires fit { (R.asks rule).fit m source target (lists_in lists.now) }
+    requires fit { (R.asks rule).fit m source target (neighbours_in rows) }
     requires fresh { Fresh (ordered R.Key.kind (R.kind rule)) m (memory_of dist.old preds.old peaks.old words.old keys.old) }
     ensures { Searched (ordered R.Key.kind (R.kind rule)) m (target_in m target) source
-        (lists_in lists.now) (memory_of dist.new preds.new peaks.new words.new keys.new) (number_of result) (takes_of result) }
+        (neighbours_in rows.entry) (memory_of dist.new preds.new peaks.new words.new keys.new) (number_of result) (takes_of result) }
 {
     let mut memory = Memory {
         dist,
@@ -327,7 +339,7 @@ fn search_part<'a, 'b, R: Rule>(
         words,
         keys,
     };
-    search(rule, m, source, target, lists, &mut memory)
+    search(rule, m, source, target, rows, &mut memory)
 }
 
 // The search on the first m entries of each list, whatever they hold, to a target if one is given that is below m. Gives how many pairs
@@ -337,13 +349,13 @@ pub fn run<'a, 'b, R: Rule>(
     m: usize,
     source: usize,
     target: Option<usize>,
-    lists: &Lists<'a, R::Cost>,
+    rows: Neighbours<'a, R::Cost>,
     memory: &mut Memory<'b, R::Key>,
 ) -> Result<usize, BadCost>
-    requires fit { (R.asks rule).fit m source target (lists_in lists.now) }
+    requires fit { (R.asks rule).fit m source target (neighbours_in rows) }
     requires enough_memory { EnoughMemory m (memory_in memory.old) }
     ensures ran { Ran (ordered R.Key.kind (R.kind rule)) m (target_in m target) source
-        (lists_in lists.now) (memory_in memory.old) (memory_in memory.new) (number_of result) (takes_of result) }
+        (neighbours_in rows.entry) (memory_in memory.old) (memory_in memory.new) (number_of result) (takes_of result) }
     ensures same { SameMemory memory.old memory.new }
 {
     memory.clear(m, rule.none());
@@ -352,7 +364,7 @@ pub fn run<'a, 'b, R: Rule>(
         m,
         source,
         target,
-        lists,
+        rows,
         &mut memory.dist[..m],
         &mut memory.preds[..m],
         &mut memory.peaks[..m],
@@ -361,19 +373,21 @@ pub fn run<'a, 'b, R: Rule>(
     )
 }
 
-// The least totals from a source to all indices below m: no heuristic, no target.
+// The least totals from a source to all indices below m: no heuristic, no target. Gives how many pairs were taken and not dropped.
 pub fn to_all<'a, 'b>(
     m: usize,
     source: usize,
-    lists: &Lists<'a, i64>,
+    rows: Neighbours<'a, i64>,
     memory: &mut Memory<'b, i64>,
 ) -> Result<usize, BadCost>
-    requires cheap { Cheap m (lists_in lists.now) }
+    requires cheap { Cheap m (neighbours_in rows) }
     requires source_lt_m { (source < m) × EnoughMemory m (memory_in memory.old) }
-    ensures to_all { ToAll (RowArc m (lists_in lists.now)) m source memory.old.dist.now memory.new.dist.now (number_of result) }
+    ensures to_all { ToAll (RowArc m (neighbours_in rows.entry)) m source memory.old.dist.now memory.new.dist.now (number_of result) }
+    ensures ran { Ran (guided (pos 0 ∷ [])) m none source
+        (neighbours_in rows.entry) (memory_in memory.old) (memory_in memory.new) (number_of result) (takes_of result) }
     ensures kept_memory { KeptMemory m (memory_in memory.old) (memory_in memory.new) }
     ensures same { SameMemory memory.old memory.new }
 {
     let rule = Guided { guess: &[0] };
-    run(rule, m, source, None, lists, memory)
+    run(rule, m, source, None, rows, memory)
 }

@@ -8,3 +8,6 @@ run-requires c = record { fit = fits c.requires.cheap c.requires.source_lt_m.0; 
 
 pub returns-clause-to_all : goal.returns-clause-to_all
 returns-clause-to_all c = reached c.run.ensures.ran c.requires.source_lt_m.1.dist
+
+pub returns-clause-ran : goal.returns-clause-ran
+returns-clause-ran c = c.run.ensures.ran
