@@ -68,6 +68,7 @@ BREAKS = [
     (ZERO, "small::count", "small::nothing", "there is no public function small::nothing"),
     (ZERO, "old: number: n,", "old: number: m,", "zero.edit: its old text stands 0 times"),
     (LIB, "// A place", "// New.\npub fn fresh(n: usize) -> usize\n{\n    n\n}\n\n// A place", "small::fresh: 0 wrong answers are named"),
+    (LIB, "// A place", "// New.\npub trait Thing {\n    fn fresh(self) -> usize;\n}\n\n// A place", "small::Thing::fresh: 0 wrong answers are named"),
     (THRICE, "small::double", "small::treble", "there is no public function small::treble"),
     (THRICE, "# a wrong answer\n", "", "it has to have the lines"),
     (THRICE, "# a wrong answer\n", "# \n", "it has to have the lines"),
