@@ -233,8 +233,8 @@ class Wrong(unittest.TestCase):
                 self.assertEqual([[e.changed for e in group] for group in found], groups)
 
     def test_reached(self):
-        """What a function calls, itself or on the way."""
-        text = "fn one() {\n    two(); // three()\n}\n\nfn two() {\n    small::four(1);\n}\n\npub fn four(n: usize) {\n}\n\nfn three() {\n    one()\n}\n"
+        """What a function calls, itself or on the way; a method that a trait declares alone calls nothing."""
+        text = "trait Five {\n    fn five(\n        self,\n    ) -> usize;\n}\n\nfn one() {\n    two(); // three()\n}\n\nfn two() {\n    small::four(1);\n}\n\npub fn four(n: usize) {\n}\n\nfn three() {\n    one()\n}\n"
         with tempfile.TemporaryDirectory() as root:
             write(root, {LIB: text})
             calls = loaded("wrong").reached(root, "small")
