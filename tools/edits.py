@@ -81,9 +81,12 @@ class Edit:
 
 
 def functions(text):
-    """The functions of a source: name, start and end."""
+    """The functions of a source that have a body: name, start and end."""
     out = []
     for m in re.finditer(r"(?m)^( *)(?:pub (?:extern \"C\" )?)?fn (\w+)[<(]", text):
+        opened = re.compile(r"(?m)[{;]$").search(text, m.end())
+        if opened and opened.group() == ";":
+            continue
         close = re.compile(r"(?m)^" + m.group(1) + r"\}$").search(text, m.end())
         out.append((m.group(2), m.start(), close.end() if close else len(text)))
     return out

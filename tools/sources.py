@@ -25,8 +25,8 @@ def flat(text):
 
 class Function:
     """A public function: its name with crate and module, the lent slices it may write, its result and its contract. `texts` are the sources of every crate,
-    `holders` the structs that hold something lent that may be written, `types` its type parameters, those of its block among them. `held` has for each
-    parameter that is a lent struct what tells all of it."""
+    `holders` the structs that hold something lent that may be written, `types` its type parameters, those of its block among them: of a method of a trait
+    `Self` is one, which stands first. `held` has for each parameter that is a lent struct what tells all of it."""
 
     def __init__(self, name, file, line, params, result, clauses, head, texts, holders, types):
         self.crate, self.name, self.file, self.line = name.split("::")[0], name, file, line
@@ -135,6 +135,8 @@ CLAUSE = re.compile(r"\s*((?:requires|ensures)\*?|ghost)(?:\s+([^\s{}:*]+):?)?\s
 # what stands in `<..>` behind a name, with more of it inside, three deep
 ANGLE = functools.reduce(lambda inner, _: r"<(?:->|[^<>]|%s)*>" % inner, range(3), r"<(?:->|[^<>])*>")
 FN = re.compile(r'\bpub\s+(?:[\w"]+\s+)*fn\s+(\w+)\s*(' + ANGLE + r")?\s*\(")
+METHOD = re.compile(r"\bfn\s+(\w+)\s*(" + ANGLE + r")?\s*\(")
+TRAIT = re.compile(r"(?m)^\s*pub\s+(?:unsafe\s+)?trait\s+(\w+)\s*(" + ANGLE + r")?[^{;]*\{")
 IMPL = re.compile(r"(?m)^impl\b\s*(" + ANGLE + r")?[^{]*?(\w+)(" + ANGLE + r")?\s*(?:\bwhere\b[^{]*)?\{")
 GHOST = re.compile(r"\s*(?:pub\s+)?ghost\b")
 LENT = re.compile(r"&\s*('\w+\s+)?mut\b")
@@ -148,8 +150,8 @@ def sources(root, crate):
 
 
 def public_functions(root):
-    """Every public function of every crate: of each module but those that the top of the crate declares without `pub`. One of a static library that has the
-    name, the parameters, the result and the clauses of a function of a crate that it lists is that function under an exported name, and does not count twice."""
+    """Every public function of every crate: of each module but those that the top of the crate declares without `pub`. The methods of a public trait are such,
+    once for the trait: an impl of it has their contract. One of a static library that has the name, the parameters, the result and the clauses of a function of a crate that it lists is that function under an exported name, and does not count twice."""
     texts = {crate: sources(root, crate) for crate in crates(root)}
     holders = lent_structs([text for found in texts.values() for text in found.values()])
     out = []
@@ -161,12 +163,20 @@ def public_functions(root):
             if any(re.search(private, found.get(os.path.join(src, top), "")) for top in ("lib.rt", "main.rt")):
                 continue
             place = crate if module in ("lib", "main") else crate + "::" + module
-            for m in FN.finditer(text):
+            heads = [m for trait in TRAIT.finditer(text) for m in methods(text, trait)]
+            for m in sorted([*FN.finditer(text), *heads], key=lambda m: m.start()):
                 out.append(function_at(root, place, file, texts, m, holders))
     libraries = exported(root)
     listed = {crate for deps in libraries.values() for crate in deps}
     known = {(f.crate, promise(root, f)) for f in out if f.crate in listed}
     return [f for f in out if f.crate not in libraries or not any((crate, promise(root, f)) in known for crate in libraries[f.crate])]
+
+
+def methods(text, trait):
+    """Where the heads of a trait's methods start: not what stands in a body or in a clause."""
+    inside = range(trait.end(), closing(text, trait.end() - 1))
+    found = METHOD.finditer(text, inside.start, inside.stop)
+    return [m for m in found if text.count("{", inside.start, m.start()) == text.count("}", inside.start, m.start())]
 
 
 def exported(root):
@@ -216,7 +226,7 @@ def lent_fields(texts, crate, kind):
 
 
 def function_at(root, place, file, texts, m, holders):
-    """The public function whose head starts at a match of FN in a file of the sources of a crate, given the sources of all."""
+    """The public function whose head starts at a match of FN or METHOD in a file of the sources of a crate, given the sources of all."""
     found = texts[place.split("::")[0]]
     text = found[file]
     close = closing(text, m.end() - 1)
@@ -229,10 +239,11 @@ def function_at(root, place, file, texts, m, holders):
     arrow = re.match(r"\s*->\s*", text[at:])
     if arrow:
         at += arrow.end()
-        stop = re.search(r"\b(where|ghost|requires|ensures)\b|\{", text[at:]).start()
+        # a method may end with its head; what ends there is not the type of an array
+        stop = re.search(r"\b(where|ghost|requires|ensures)\b|\{|;(?![^\[\]]*\])", text[at:]).start()
         result = flat(text[at:at + stop])
         at += stop
-    bounds = re.match(r"\s*where\b.*?(?=\b(?:ghost|requires|ensures)\b|\{)", text[at:], re.S)
+    bounds = re.match(r"\s*where\b.*?(?=\b(?:ghost|requires|ensures)\b|\{|;)", text[at:], re.S)
     at += bounds.end() if bounds else 0
     head = [x for x in text[m.start():at].split("\n") if x.strip()]
     while True:
@@ -244,12 +255,13 @@ def function_at(root, place, file, texts, m, holders):
         clauses.append((word.group(1), word.group(2), text[opened + 1:end]))
         head.append(flat(text[at:end + 1]))
         at = end + 1
+    # a block has what it is of, its own parameters, and what `self` is in it
+    blocks = [(i, i.group(2), parameters(i.group(1)), i.group(2) + (i.group(3) or "")) for i in IMPL.finditer(text)]
+    blocks += [(t, t.group(1), ["Self"] + parameters(t.group(2)), "Self") for t in TRAIT.finditer(text)]
     owner, types = "", parameters(m.group(2))
-    for i in IMPL.finditer(text):
-        if i.start() < m.start() < closing(text, i.end() - 1):
-            owner, types = i.group(2) + "::", parameters(i.group(1)) + types
-            # what `self` is, is told by the block
-            block = i.group(2) + (i.group(3) or "")
+    for head_of, name, own, block in blocks:
+        if head_of.start() < m.start() < closing(text, head_of.end() - 1):
+            owner, types = name + "::", own + types
             params = [(p, re.sub(r"\b[sS]elf\b(?!\s*::)", lambda _, kind=block: kind, kind)) for p, kind in params]
     line = text.count("\n", 0, m.start()) + 1
     return Function(place + "::" + owner + m.group(1), os.path.relpath(file, root), line, params, result, clauses, head, texts, holders, types)

@@ -217,7 +217,48 @@ pub fn done(n: usize) -> std::Result<(), Refusal>
     Ok(())
 }
 
-pub fn odd(n: usize) -> Option<Refusal>
+pub fn odd(n: usize) -> Option<[u8; 2]>
+{
+    None
+}
+
+// A kind of entries.
+pub trait Lay: Copy {
+    type Key;
+
+    fn lay(self, list: &mut [Self], rows: &Rows<'_, Self>) -> Option<Self::Key>
+        ensures { result ≡ result };
+
+    fn least(n: usize) -> Self::Key;
+}
+
+pub enum Depth {
+    Low = 1,
+    High = 2,
+}
+
+pub struct Ground {
+    pub depth: Depth,
+    pub at: u16,
+}
+
+pub enum Sight {
+    None,
+    Far(Ground, u8),
+    Near { ground: Ground },
+}
+
+pub struct Look {
+    pub sight: Sight,
+    pub at: usize,
+}
+
+pub fn see(n: usize) -> Look
+{
+    Look { sight: Sight::None, at: n }
+}
+
+pub fn seek(n: usize) -> Option<Depth>
 {
     None
 }
@@ -409,6 +450,105 @@ wrong: result = refused 2
     }
     print!(host; "\\n")?;
 """, "result = ok\n", "result = refused 2\n"),
+    ("Lay::lay", """input: Self = u32
+input: Self::Key = i64
+input: self = 5
+input: starts = [1]
+input: rows = [none]
+right: result = some 3
+right: list = none ..
+wrong: result = none
+wrong: list = 4 ..
+""", """    let this = 5;
+    let mut list: [u32; 40] = [7; 40];
+    let mut starts: [usize; 1] = [1];
+    let mut rows: [u32; 1] = [clean::NONE_U32];
+    let the_rows = small::Rows { starts: &mut starts, rows: &mut rows };
+    let result = <u32 as small::Lay>::lay(this, &mut list, &the_rows);
+""", """    print!(host; "result =")?;
+    match result {
+        Some(x) => {
+            print!(host; " some")?;
+            put_i64(host, x)?;
+        }
+        None => print!(host; " none")?,
+    }
+    print!(host; "\\n")?;
+    print!(host; "list =")?;
+    put_u32s(host, &list, 1)?;
+    print!(host; "\\n")?;
+""", "result = some 3\nlist = 4294967295\n", "result = none\nlist = 4\n"),
+    ("Lay::least", """input: Self = net::Ints
+input: Self::Key = u32
+input: n = 5
+right: result = none
+wrong: result = 5
+""", """    let n = 5;
+    let result = <net::Ints as small::Lay>::least(n);
+""", """    print!(host; "result =")?;
+    put_u32(host, result)?;
+    print!(host; "\\n")?;
+""", "result = 4294967295\n", "result = 5\n"),
+    ("see", """input: n = 5
+right: result.sight = Far Low 3 4
+wrong: result.sight = Near High 3
+""", """    let n = 5;
+    let result = small::see(n);
+""", """    print!(host; "result.sight =")?;
+    match result.sight {
+        small::Sight::None => {
+            print!(host; " None")?;
+        }
+        small::Sight::Far(x0, x1) => {
+            print!(host; " Far")?;
+            match x0.depth {
+                small::Depth::Low => {
+                    print!(host; " Low")?;
+                }
+                small::Depth::High => {
+                    print!(host; " High")?;
+                }
+            }
+            put_u16(host, x0.at)?;
+            put_u8(host, x1)?;
+        }
+        small::Sight::Near { ground } => {
+            print!(host; " Near")?;
+            match ground.depth {
+                small::Depth::Low => {
+                    print!(host; " Low")?;
+                }
+                small::Depth::High => {
+                    print!(host; " High")?;
+                }
+            }
+            put_u16(host, ground.at)?;
+        }
+    }
+    print!(host; "\\n")?;
+""", "result.sight = Far Low 3 4\n", "result.sight = Near High 3\n"),
+    ("seek", """input: n = 5
+right: result = some High
+wrong: result = none
+""", """    let n = 5;
+    let result = small::seek(n);
+""", """    print!(host; "result =")?;
+    match result {
+        Some(x) => {
+            print!(host; " some")?;
+            match x {
+                small::Depth::Low => {
+                    print!(host; " Low")?;
+                }
+                small::Depth::High => {
+                    print!(host; " High")?;
+                }
+            }
+        }
+        None => print!(host; " none")?,
+    }
+    print!(host; "\\n")?;
+""", "result = some High\n", "result = none\n"),
 ]
 # what stands in the first of them, what is put for it, and what is wrong with it
 LENT_UNFIT = [
@@ -609,7 +749,8 @@ class Differ(unittest.TestCase):
     def test_lent_unfit(self):
         """Inputs and answers that do not fit what is lent in structs, without a run."""
         cases = [("look", LOOK.replace(old, new), words) for old, new, words in LENT_UNFIT]
-        cases += [("odd", "input: n = 5\nright: result = none\nwrong: result = some 1\n", "the result holds a Refusal")]
+        cases += [("odd", "input: n = 5\nright: result = none\nwrong: result = some 1\n", "the result holds a [u8; 2]")]
+        cases += [("Lay::least", "input: n = 5\nright: result = 1\nwrong: result = 2\n", "no input for Self")]
         cases += [("twice", "input: starts = [1]\nright: rows = 1\nwrong: rows = 2\n", "two things are lent by the name starts")]
         for function, lines, words in cases:
             with self.subTest(words + lines), mock.patch("small_try.tried", side_effect=AssertionError("nothing is to be run")):

@@ -278,6 +278,44 @@ pub fn told(out: &mut [u8], n: usize) -> Result<(), Trouble>
 {
     Ok(())
 }
+
+// A kind of thing, which has public functions; an impl of it has none of its own.
+pub trait Thing: Copy {
+    type Key;
+
+    ghost size: { Self → ℕ };
+
+    fn fill(self, list: &mut [Self], n: usize) -> usize
+        ensures { (result ≡ size self) × (list.new ≡ list.old) };
+
+    fn least(at: usize) -> [Self::Key; 2]
+        ensures { result ≡ twice at };
+
+    fn each<F: Fn(usize) -> usize>(&self, f: F) -> usize
+        ensures { result ≡ size self }
+    {
+        fn inner(n: usize) -> usize {
+            n
+        }
+        inner(f(0))
+    }
+}
+
+impl Thing for u8 {
+    type Key = u8;
+
+    fn fill(self, list: &mut [u8], n: usize) -> usize {
+        n
+    }
+}
+
+trait Own {
+    fn own(self) -> usize;
+}
+
+pub(crate) trait Hidden {
+    fn hidden(self) -> usize;
+}
 """,
     HOLDS: """-- What is lent, and what is answered.
 use Rattle.std.specs.Prelude.{◌≡◌, List, ℕ, Result, Ok, Err}
@@ -694,6 +732,17 @@ OTHERS = [
     (SETTLED, "`number_after`, `count_after`", "`count_after`, `number_after`", "both_one " + COUNTED),
     (SETTLED, "`number_after`, `count_after`", "`number_after`", "both_one " + COUNTED),
     (SETTLED, "## Views", "## Results", "Result<(), Trouble> is listed, and there is no such public function"),
+    # a method of a public trait is a public function
+    (OTHER, "(result ≡ size self) × (list.new ≡ list.old)", "result ≡ size self", "more::other::Thing::fill is not settled"),
+    (OTHER, "(result ≡ size self) × (list.new ≡ list.old)", "list.new ≡ list.old", "more::other::Thing::fill is not settled"),
+    (OTHER, "        ensures { result ≡ twice at };", "        requires { at ≤ 9 }\n        ensures { result ≡ twice at };", "more::other::Thing::least has a `requires`"),
+    (OTHER, " -> [Self::Key; 2]\n        ensures { result ≡ twice at };", " -> [Self::Key; 2];", "more::other::Thing::least is not settled"),
+    (OTHER, "\n        ensures { result ≡ twice at };", "\n    where\n        Self: Sized;", "more::other::Thing::least is not settled"),
+    (OTHER, "ensures { result ≡ size self }\n    {", "ensures { size self ≡ result }\n    {", "more::other::Thing::each is not settled"),
+    (OTHER, "(&self, f: F)", "(&mut self, f: F)", "more::other::Thing::each is not settled"),
+    (OTHER, "\ntrait Own", "\npub trait Own", "more::other::Own::own is not settled"),
+    (OTHER, "\ntrait Own", "\npub unsafe trait Own", "more::other::Own::own is not settled"),
+    (OTHER, "\ntrait Own {", "\npub trait Own<W: Into<Two<u8, W>>>: Copy\nwhere\n    W: Copy,\n{", "more::other::Own::own is not settled"),
     (DEEP, "result ≡ n", "result ≤ n", "settled: crates/more/src/deep.rt:3: more::deep::same is not settled"),
     (TWO, "result ≡ 2", "result ≤ 2", "more::deep::two::two is not settled"),
     (MORE, "mod deeper;", "pub mod deeper;", "more::deeper::nobody is not settled"),
@@ -732,6 +781,9 @@ more::leave law left_one in more/proofs/Ones.antt
 more::leave_named law left_one in more/proofs/Ones.antt
 more::other::Held::clear equation
 more::other::Held::look equation
+more::other::Thing::each equation
+more::other::Thing::fill equation
+more::other::Thing::least equation
 more::other::sweep law swept_one in more/proofs/Views.antt
 more::other::sweep_all law all_one in more/proofs/Views.antt
 more::other::tally equation
@@ -749,7 +801,7 @@ small::count equation
 small::double equation
 small::somewhere exception
 small::tell law told_one in small/proofs/One.antt
-settled: 25 public functions in 4 crates: 14 by equation, 10 by a law, 1 exceptions; 1 with a `requires`; 0 wrong
+settled: 28 public functions in 4 crates: 17 by equation, 10 by a law, 1 exceptions; 1 with a `requires`; 0 wrong
 """.split("\n")
 
 # what the sound tree may have in another form: a file, what stands there, what is put for it

@@ -68,6 +68,7 @@ BREAKS = [
     (ZERO, "small::count", "small::nothing", "there is no public function small::nothing"),
     (ZERO, "old: number: n,", "old: number: m,", "zero.edit: its old text stands 0 times"),
     (LIB, "// A place", "// New.\npub fn fresh(n: usize) -> usize\n{\n    n\n}\n\n// A place", "small::fresh: 0 wrong answers are named"),
+    (LIB, "// A place", "// New.\npub trait Thing {\n    fn fresh(self) -> usize;\n}\n\n// A place", "small::Thing::fresh: 0 wrong answers are named"),
     (THRICE, "small::double", "small::treble", "there is no public function small::treble"),
     (THRICE, "# a wrong answer\n", "", "it has to have the lines"),
     (THRICE, "# a wrong answer\n", "# \n", "it has to have the lines"),
@@ -232,8 +233,8 @@ class Wrong(unittest.TestCase):
                 self.assertEqual([[e.changed for e in group] for group in found], groups)
 
     def test_reached(self):
-        """What a function calls, itself or on the way."""
-        text = "fn one() {\n    two(); // three()\n}\n\nfn two() {\n    small::four(1);\n}\n\npub fn four(n: usize) {\n}\n\nfn three() {\n    one()\n}\n"
+        """What a function calls, itself or on the way; a method that a trait declares alone calls nothing."""
+        text = "trait Five {\n    fn five(\n        self,\n    ) -> usize;\n}\n\nfn one() {\n    two(); // three()\n}\n\nfn two() {\n    small::four(1);\n}\n\npub fn four(n: usize) {\n}\n\nfn three() {\n    one()\n}\n"
         with tempfile.TemporaryDirectory() as root:
             write(root, {LIB: text})
             calls = loaded("wrong").reached(root, "small")

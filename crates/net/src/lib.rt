@@ -163,6 +163,7 @@ impl<'a, C: Costs> Lent<'a, C> {
     }
 
     // Does it have the index i, which may be any number?
+    #[tactic(auto, unfolding(table::specs::Links::present))]
     pub fn has(&self, i: usize) -> bool
         requires { self.now.map.bound ≤ length self.now.marks.now }
         ensures { result ≡ present self.now.map.bound self.now.marks.now i }

@@ -1,6 +1,6 @@
 -- What the links of either kind of map give: the weight of each, and the arcs of all.
 -- Assumes nothing.
-use Rattle.std.specs.Prelude.{◌≡◌, refl, Bool, true, false, cond, List, [], ◌∷◌, ◌++◌, ℕ, ℤ, Option, None, Some}
+use Rattle.std.specs.Prelude.{◌≡◌, refl, Bool, true, false, cond, List, [], ◌∷◌, ◌++◌, ℕ, ◌<◌, ℤ, Option, None, Some, length, get_or}
 use mathlib.Core.Path.{sym, ap}
 use Rattle.table.specs.Links.{Link, link_of, links, arcs_of, arcs}
 use Rattle.table.specs.Lent.{float_costs}
@@ -14,6 +14,10 @@ int_weight c = Some c
 
 abbrev pub float_weight : FloatCost → Option ℕ
 float_weight c = cond c.opened (Some c.bits) None
+
+-- w is what the link at place k gives, of these costs
+abbrev pub Weighed : {C W : Type 0} → (C → Option W) → List C → ℕ → Option W → Type 0
+Weighed {C} f cs k w = (k < length cs) × ((o : C) → w ≡ f (get_or cs k o))
 
 -- the arcs are what each link gives, one after the other: those of the links of an integer map
 pub arcs_flat : {C : Type 0} (d : Bool) (ls : List (Link C)) → flat (arcs_of d) ls ≡ arcs d ls
