@@ -6,6 +6,7 @@ import unittest
 from sound import LIB, ONE, SOUND, SUMS, exits, told, with_breaks, write
 
 MORE, SHEET, AUDIT = "crates/small/specs/More.antt", "crates/sheet/specs/Sheet.antt", "docs/AUDIT.md"
+KINDS, ASKS, APART = "crates/kinds/src/lib.rt", "crates/asks/src/lib.rt", "crates/apart/src/lib.rt"
 
 TREE = dict(SOUND, **{
     MORE: """-- More.
@@ -66,7 +67,73 @@ pub fn sheet(out: &mut [u8])
 }
 """,
     SHEET: "use Rattle.small.specs.Sums.{twice}\npub Sheet : List ℕ → Type 0\nSheet l =\n\n  length l ≡ twice 4\n",
-    "docs/SETTLED.md": SOUND["docs/SETTLED.md"] + "| `sheet::sheet` | by equation |\n\n| Function | Law |\n|---|---|\n| `small::double` | by equation |\n",
+    # a trait with ghost members and a type, with what has it in two crates; another trait of that name, and other members
+    KINDS: """ghost use Rattle.std.specs.Prelude.{ℕ, List};
+ghost use Rattle.kinds.specs.Sizes.{size_of, other};
+
+use small::Count;
+
+pub struct Held {
+    one: u8,
+}
+
+// A kind.
+pub trait Kind: Copy {
+    type Each;
+
+    ghost size: { List Self.Each → ℕ };
+
+    ghost small: { (l : List Self.Each)
+        → size l ≡ 0 };
+
+    fn size(&self) -> usize
+        ensures { result ≡ other }
+}
+
+impl<'a> Kind for &'a Count {
+    type Each = u8;
+
+    ghost size = { λ l. size_of l };
+
+    ghost small = { other };
+}
+""",
+    "crates/kinds/specs/Sizes.antt": "pub size_of : List ℕ → ℕ\nsize_of l =\n  0\n\npub other : ℕ\nother = 1\n",
+    ASKS: """ghost use Rattle.std.specs.Prelude.{◌≡◌};
+ghost use Rattle.asks.specs.Own.{none};
+
+use kinds::{Kind};
+use small::Count;
+
+pub struct Own {
+    one: u8,
+}
+
+impl Kind for Own {
+    type Each = Count;
+
+    ghost size = { none };
+}
+
+// How large.
+pub fn ask<D, C: Kind>(c: C, d: D) -> usize
+    ensures { result ≡ C.size c }
+{
+    c.size()
+}
+""",
+    "crates/asks/specs/Own.antt": "pub none : ℕ\nnone = 0\n",
+    APART: """ghost use Rattle.kinds.specs.Sizes.{other};
+
+pub trait Kind {
+    ghost size: { other };
+}
+
+impl Kind for u8 {
+    ghost size = { other };
+}
+""",
+    "docs/SETTLED.md": SOUND["docs/SETTLED.md"] + "| `sheet::sheet` | by equation |\n| `asks::ask` | by equation |\n\n| Function | Law |\n|---|---|\n| `small::double` | by equation |\n",
     AUDIT: """# Audit
 
 | Question | Theorem | File | In words |
@@ -75,18 +142,22 @@ pub fn sheet(out: &mut [u8])
 
 ## What must be believed
 
-The 6 lines of the 3 contracts: `make test`.
+The 8 lines of the 4 contracts: `make test`.
 
 | File | Lines | What |
 |---|---|---|
 | `small/specs/More.antt` | 13 | more |
 | `small/specs/Sums.antt` | 11 | all |
 | `small/specs/Deep.antt` | 4 | deep |
+| `kinds/src/lib.rt` | 6 | a kind |
+| `kinds/specs/Sizes.antt` | 2 | a size |
+| `asks/src/lib.rt` | 3 | a kind more |
+| `asks/specs/Own.antt` | 2 | its size |
 | `small/src/lib.rt` | 4 | a struct |
 | `sheet/specs/Sheet.antt` | 2 | a sheet |
-| together | 34 | |
+| together | 47 | |
 
-The last one rows are the map file, its sheet and the C functions; the questions alone rest on 32 lines.
+The last one rows are the map file, its sheet and the C functions; the questions alone rest on 45 lines.
 
 | Other | Lines |
 |---|---|
@@ -102,27 +173,27 @@ BREAKS = [
      "says 4 lines of small/proofs/One.antt, there are none"),
     (AUDIT, "| `small/specs/Sums.antt` | 11 | all |\n", "", "says no lines of small/specs/Sums.antt, there are 11"),
     (AUDIT, "| 11 | all |\n", "| 11 | all |\n| `small/specs/Sums.antt` | 11 | again |\n", "says 11 and 11 lines of small/specs/Sums.antt"),
-    (AUDIT, "| together | 34 |", "| together | 35 |", "does not end its table with: together 34"),
-    (AUDIT, "| together | 34 | |\n", "", "does not end its table with: together 34"),
-    (AUDIT, "| together | 34 | |\n", "| together | 34 | |\n| together | 34 | |\n| `small/src/lib.rt` | 4 | |\n",
-     "does not end its table with: together 34"),
+    (AUDIT, "| together | 47 |", "| together | 48 |", "does not end its table with: together 47"),
+    (AUDIT, "| together | 47 | |\n", "", "does not end its table with: together 47"),
+    (AUDIT, "| together | 47 | |\n", "| together | 47 | |\n| together | 47 | |\n| `small/src/lib.rt` | 4 | |\n",
+     "does not end its table with: together 47"),
     (AUDIT, "## What must be believed", "## What may be believed", "says no lines of small/specs/More.antt"),
     # what the questions alone rest on
-    (AUDIT, "rest on 32 lines", "rest on 35 lines", "does not say once: The last 1 rows .. rest on 32 lines"),
+    (AUDIT, "rest on 45 lines", "rest on 48 lines", "does not say once: The last 1 rows .. rest on 45 lines"),
     (AUDIT, "The last one rows", "The last two rows", "does not say once: The last 1 rows"),
-    (AUDIT, "lines.\n", "lines. The last one rows are the map file, its sheet and the C functions; the questions alone rest on 35 lines.\n",
+    (AUDIT, "lines.\n", "lines. The last one rows are the map file, its sheet and the C functions; the questions alone rest on 48 lines.\n",
      "does not say once: The last 1 rows"),
     (AUDIT, "The last one rows", "The rows", "does not say once: The last 1 rows"),
     (AUDIT, "| `small/src/lib.rt` | 4 | a struct |\n| `sheet/specs/Sheet.antt` | 2 | a sheet |\n", "| `sheet/specs/Sheet.antt` | 2 | a sheet |\n| `small/src/lib.rt` | 4 | a struct |\n",
      "the last rows are not: sheet/specs/Sheet.antt"),
     # the contracts
-    (AUDIT, "6 lines of the 3 contracts", "7 lines of the 3 contracts", "does not say once: 6 lines of the 3 contracts"),
-    (AUDIT, "6 lines of the 3 contracts", "6 lines of the 4 contracts", "does not say once: 6 lines of the 3 contracts"),
-    (AUDIT, "contracts: `make test`", "contracts, 7 lines of the 3 contracts", "does not say once: 6 lines of the 3 contracts"),
-    (LIB, "out.new result }", "out.new result }\n    ensures low { 0 ≤ n }", "does not say once: 7 lines of the 3 contracts"),
-    (LIB, "pub fn tell(out: &mut [u8], n: usize) -> usize", "pub fn tell(\n    out: &mut [u8],\n    n: usize,\n) -> usize", "does not say once: 9 lines"),
+    (AUDIT, "8 lines of the 4 contracts", "9 lines of the 4 contracts", "does not say once: 8 lines of the 4 contracts"),
+    (AUDIT, "8 lines of the 4 contracts", "8 lines of the 5 contracts", "does not say once: 8 lines of the 4 contracts"),
+    (AUDIT, "contracts: `make test`", "contracts, 9 lines of the 4 contracts", "does not say once: 8 lines of the 4 contracts"),
+    (LIB, "out.new result }", "out.new result }\n    ensures low { 0 ≤ n }", "does not say once: 9 lines of the 4 contracts"),
+    (LIB, "pub fn tell(out: &mut [u8], n: usize) -> usize", "pub fn tell(\n    out: &mut [u8],\n    n: usize,\n) -> usize", "does not say once: 11 lines"),
     ("docs/SETTLED.md", "`sheet::sheet`", "`sheet::sheets`", "no public function sheet::sheets"),
-    ("docs/SETTLED.md", "| `sheet::sheet` | by equation |\n", "", "does not say once: 4 lines of the 2 contracts"),
+    ("docs/SETTLED.md", "| `sheet::sheet` | by equation |\n", "", "does not say once: 6 lines of the 3 contracts"),
     # the theorems
     (AUDIT, "`.._is`", "`.._was`", "no theorem .._was in small/proofs/One.antt"),
     (AUDIT, "`.._is`", "`.._is`, `told`", "no theorem told in small/proofs/One.antt"),
@@ -145,6 +216,18 @@ BREAKS = [
     (SHEET, "{twice}\npub Sheet : List ℕ", "{twice}\nuse Rattle.small.specs.More.{lowest}\npub Sheet : List lowest",
      "says 4 lines of small/specs/Deep.antt, there are 6"),
     (SHEET, "\n  length l", "\n  let k = 4 in\n  length l", "says 2 lines of sheet/specs/Sheet.antt, there are 3"),
+    # members of a bound: one less, another one, one that no bound has; a name more of one; one more that has the trait, and no other trait of that name
+    (ASKS, "    ghost size = { none };\n", "", "says 3 lines of asks/src/lib.rt, there are 2"),
+    (ASKS, "C.size c", "C.small c", "says 2 lines of asks/specs/Own.antt, there are none"),
+    (ASKS, "C.size c", "C.large c", "asks::ask names C.large, and no bound of ours has it"),
+    (ASKS, "<D, C: Kind>", "<D, C: Copy>", "asks::ask names C.size, and no bound of ours has it"),
+    (ASKS, "<D, C: Kind>", "<D: Kind, C>", "asks::ask names C.size, and no bound of ours has it"),
+    (ASKS, "use kinds::{Kind};", "use apart::{Kind};", "says 6 lines of kinds/src/lib.rt, there are none"),
+    (KINDS, "size: { List Self.Each → ℕ }", "size: { List ℕ → ℕ }", "says 6 lines of kinds/src/lib.rt, there are 4"),
+    (KINDS, "size_of l }", "size_of (other l) }", "says 2 lines of kinds/specs/Sizes.antt, there are 4"),
+    (KINDS, "size: { List", "size: { other List", "says 2 lines of kinds/specs/Sizes.antt, there are 4"),
+    (KINDS, "type Each = u8;\n", "type Each = Held;\n", "says 6 lines of kinds/src/lib.rt, there are 9"),
+    (APART, "pub trait Kind {\n    ghost size: { other };\n}\n", "use kinds::Kind;\n", "says no lines of apart/src/lib.rt, there are 2"),
 ]
 
 
@@ -157,6 +240,8 @@ BROKEN = [
     (SUMS, "packed x n l = ", "packed x\n    (n)\n    (l) = "),
     (MORE, "module _ (k : deep.Kind) where", "module _\n    (k : deep.Kind) where"),
     (LIB, "{ Told n out.old out.new result }", "{ Told n\n        out.old\n        out.new result }"),
+    (KINDS, "ghost size: { List Self.Each → ℕ };", "ghost size: {\n        List Self.Each\n        → ℕ\n    };"),
+    (KINDS, "impl<'a> Kind for &'a Count {", "impl<'a> Kind for\n    &'a Count\n{"),
 ]
 
 
@@ -172,7 +257,7 @@ class Believe(unittest.TestCase):
     """The sound tree passes, and each break of it is seen."""
 
     def test_exit(self):
-        self.assertEqual(exits("believe", dict(TREE, **{AUDIT: TREE[AUDIT].replace("rest on 32 lines", "rest on 23 lines")})), 1)
+        self.assertEqual(exits("believe", dict(TREE, **{AUDIT: TREE[AUDIT].replace("rest on 45 lines", "rest on 54 lines")})), 1)
 
     def test_broken_lines(self):
         for file, old, new in BROKEN:
@@ -184,7 +269,7 @@ class Believe(unittest.TestCase):
         status, said = told_of(TREE, "--names")
         self.assertEqual(status, 0)
         self.assertIn("| `small/specs/More.antt` | 13 | Choice, Pair, pair, six, ◌⊕◌\n", said)
-        self.assertIn("contracts: 6 lines of 3 functions; the questions alone: 32\n", said)
+        self.assertIn("contracts: 8 lines of 4 functions; the questions alone: 45\n", said)
         self.assertIn("| `small/specs/More.antt` | 13 |\n", told_of(TREE, "--print")[1])
 
 

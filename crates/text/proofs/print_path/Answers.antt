@@ -2,23 +2,14 @@
 -- Assumes nothing.
 use native.Mathlib.Omega.{arith}
 use mathlib.Core.Path.{sym, ap, ◌∙◌}
-use mathlib.Core.Path.{◌≡◌}
-use mathlib.Core.Bool.{true}
-use mathlib.Core.List.{List, [], ◌∷◌, ◌++◌, map}
-use Prim.Native.Nat.{ℕ}
-use lib.IntN.{ℤ}
-use lib.ListN.{take, length-take}
-use Rattle.lines.specs.Text.{cost_text, path_text, signed_text}
-use Rattle.text.specs.Text.{index_text, line, path_lines}
+use lib.ListN.{length-take}
 use lib.Signed.{lt_z}
 use mir.ValLaws.{to_z-of_z}
 use mir.Syntax.{w64}
 use Rattle.clean.specs.None.{none_i64}
 use Rattle.lines.proofs.Pages.{printed_two}
+use Rattle.text.proofs.Fields.{path_some}
 use Rattle.text.proofs.print_path.Goals as goal
-
-path_some : (c : ℤ) (n : ℕ) (path : List ℕ) → lt_z none_i64 c ≡ true → path_lines c n path ≡ line cost_text (signed_text c ∷ []) ++ line path_text (map index_text (take n path))
-path_some c n path h = simp (h)
 
 pub returns-then-cost-gt-NONE_I64-clause-printed : goal.returns-then-cost-gt-NONE_I64-clause-printed
 returns-then-cost-gt-NONE_I64-clause-printed c =
