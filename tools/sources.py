@@ -541,14 +541,14 @@ class Tree:
 
 # ---- documents
 
-# those that speak of now, the folder of those that tell what was, those that a tool makes, those that set the text for an older toolchain beside today's
+# those that speak of now, the folder of those that tell what was, those that a tool makes, those that lay an older text beside today's
 NOW = (
     "README.md", "docs/AUDIT.md", "docs/BENCH.md", "docs/DECISIONS.md", "docs/DIFFERENCES.md", "docs/EXCEPTIONS.md", "docs/PROVING.md", "docs/SCRATCH.md",
     "docs/SETTLED.md", "docs/TRACE.md", "docs/WORDS.md", "examples/README.md", "oracle/README.md", "crates/replay/LIST.md",
 )
 HISTORY = "docs/changes/"
 MADE = ("docs/STATEMENTS.md",)
-BESIDE_OLDER = ("docs/PORT.md", "docs/DESIGN-PASS.md", "PORTING-LEFT.md")
+BESIDE_OLDER = ("docs/PORT.md", "docs/DESIGN-PASS.md", "docs/LOOK-BACK.md", "PORTING-LEFT.md")
 
 
 def tree_files(root):

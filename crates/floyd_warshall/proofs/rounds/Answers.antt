@@ -50,8 +50,8 @@ rows-preserved c = elim c.if-reaches.branch [
   )
   | else-reaches v ↦ (
     subst (Rows c.args.p c.args.cells.now c.rounds.k (c.rows.i + 1)) (sym v.cells-is)
-    (row_skipped c.rows-test.true c.rounds.invariant.0 c.rows.invariant.0 c.any_below-falls.ensures (passed (goal.at.rows-preserved c).In-rows (search rules))
-    (sym c.reaches.ensures ∙ v.if-reaches.false)),
+        (row_skipped c.rows-test.true c.rounds.invariant.0 c.rows.invariant.0 c.any_below-falls.ensures (passed (goal.at.rows-preserved c).In-rows (search rules))
+        (sym c.reaches.ensures ∙ v.if-reaches.false)),
     v.below-is ∙ c.rows.invariant.1,
   )
 ]
