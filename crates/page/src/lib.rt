@@ -70,13 +70,10 @@ fn arc_holds(page: &[i64], met: &mut [u8], u: usize, v: usize, cost: i32) -> boo
         return false;
     }
     let next = page[u] + i64::from(cost);
-    if next < page[v] {
-        return false;
-    }
-    if next == page[v] {
+    if page[v] == next {
         met[v] = 1;
     }
-    true
+    page[v] <= next
 }
 
 // Do the arcs of the link i hold: one if directed, else one each way?
