@@ -35,7 +35,7 @@ class Function:
         self.held = {p: lent_fields(texts, self.crate, kind) for p, kind in params if LENT.match(kind.strip())}
         self.written = [p for p, kind in params if LENT.search(kind) or not SHARED.match(kind) and holders & set(re.findall(r"\w+", kind))]
         self.ghosts = [name for word, name, _ in clauses if word == "ghost"]
-        self.requires = [text for word, _, text in clauses if word.startswith("requires")]
+        self.requires = [contract(word, text) for word, _, text in clauses if word.startswith("requires")]
         self.ensures = [contract(word, text) for word, _, text in clauses if word.startswith("ensures")]
 
 

@@ -46,6 +46,13 @@ pub fn tell_again<'a>(out: &'a mut [u8], n: usize) -> usize
     n
 }
 
+pub fn tell_few(out: &mut [u8], n: usize) -> usize
+    requires { n ≤ 9 }
+    ensures { Told n out.old out.new result }
+{
+    n
+}
+
 pub fn byte(out: &mut [u8], yes: &mut u8, n: usize)
     ensures { (Told n out.old out.new (is_set yes.new)) × (yes.new ≤ 1) }
 {
@@ -142,6 +149,9 @@ module _ {n r : ℕ} {b x : List ℕ} (p : Told n b x r) where
   pub again_one : {y : List ℕ} {s : ℕ} → Told n b y s → (s ≡ r) × (x ≡ y)
   again_one q = p
 
+pub few_one : {n m r s : ℕ} {b x y : List ℕ} → n ≤ m → n ≤ m → Told n b x r → Told n b y s → (x ≡ y) × (r ≡ s)
+few_one h i p q = (p.kept, q.is)
+
 pub byte_one : {n : ℕ} {b x x' : List ℕ} (y y' : ℕ) → Told n b x (is_set y) → y ≤ 1 → Told n b x' (is_set y') → y' ≤ 1 → (x ≡ x') × (y ≡ y')
 byte_one y y' p h q k = p
 
@@ -159,10 +169,12 @@ left_one p q = p
 | `more::write` | `more/proofs/Ones.antt` `written_one`, `text_one` |
 | `more::write_first` | `more/proofs/Ones.antt` `first_one` |
 | `more::tell_again` | `more/proofs/Ones.antt` `again_one` |
+| `more::tell_few` | `more/proofs/Ones.antt` `few_one` |
 | `more::byte` | `more/proofs/Ones.antt` `byte_one` |
 | `more::leave` | `more/proofs/Ones.antt` `left_one` |
 | `more::leave_named` | `more/proofs/Ones.antt` `left_one` |
 """,
+    EXCEPTIONS: SOUND[EXCEPTIONS] + "| `more::tell_few` | large numbers | none |\n",
 })
 
 # with structs of what is lent, and views of results
@@ -596,6 +608,7 @@ NO_BOTH = [
 ]
 VIEW = "| `Result<(), Trouble>` | `number_in` | `more/specs/Holds.antt` | `more/proofs/Views.antt` `number_one` |"
 NUMBERED, COUNTED = "number_in: number_one does not say that they tell all of a Result<(), Trouble>", "does not say that they tell all of a Result<usize, Trouble>"
+FEW = "the contract does not say n ≤ m, of which few_one speaks"
 # the rest: a file, what stands there, what is put for it, a part of what is said
 OTHERS = [
     (LIB, "pub fn tell(out: &mut [u8], n: usize) -> usize\n", "pub fn tell(out: &mut [u8], n: usize) -> usize\n    requires { n ≤ 100 }\n", "small::tell is a question or put and has a `requires`"),
@@ -635,6 +648,13 @@ OTHERS = [
     (MORE, "(kept_of out.new result.first rest.new)", "(kept_of out.new result.first out.new)", "left_one does not speak of rest"),
     (MORE, "(kept_of out.new result.first rest.new) result.second", "(kept_of out.new (twice result.first) rest.new) result", "where left_one has the outcome e"),
     (MORE, "rest.new) result.second", "rest.new) result.second.first", "where left_one has the outcome r"),
+    # what is required is said where it is the very premise, a fact, and of the input alone
+    (MORE, "    requires { n ≤ 9 }\n", "", FEW),
+    (MORE, "requires { n ≤ 9 }", "requires { 9 ≡ n }", FEW),
+    (MORE, "requires { n ≤ 9 }", "requires* { n ≤ 9 }", FEW),
+    (MORE, "requires { n ≤ 9 }", "requires { n ≤ 9 → n ≤ 8 }", FEW),
+    (MORE, "requires { n ≤ 9 }", "requires { n ≤ 9 ⊎ (n ≤ 8) }", FEW),
+    (MORE, "requires { n ≤ 9 }\n    ensures { Told n", "requires { n ≤ 9 }\n    requires { Told n", FEW),
     (MORE, " × (yes.new ≤ 1)", "", "the contract does not say Told n b x (is_set y), of which byte_one speaks"),
     (MORE, "(yes.new ≤ 1)", "(yes.new ≤ 2)", "the contract does not say Told n b x (is_set y), of which byte_one speaks"),
     (MORE, "(yes.new ≤ 1)", "(out.new ≤ 1)", "the contract does not say Told n b x (is_set y), of which byte_one speaks"),
@@ -795,13 +815,14 @@ more::other::tried_at equation
 more::other::widen equation
 more::part equation
 more::tell_again law again_one in more/proofs/Ones.antt
+more::tell_few law few_one in more/proofs/Ones.antt
 more::write law written_one in more/proofs/Ones.antt, text_one in more/proofs/Ones.antt
 more::write_first law first_one in more/proofs/Ones.antt
 small::count equation
 small::double equation
 small::somewhere exception
 small::tell law told_one in small/proofs/One.antt
-settled: 28 public functions in 4 crates: 17 by equation, 10 by a law, 1 exceptions; 1 with a `requires`; 0 wrong
+settled: 29 public functions in 4 crates: 17 by equation, 11 by a law, 1 exceptions; 2 with a `requires`; 0 wrong
 """.split("\n")
 
 # what the sound tree may have in another form: a file, what stands there, what is put for it

@@ -15,9 +15,13 @@ int_weight c = Some c
 abbrev pub float_weight : FloatCost → Option ℕ
 float_weight c = cond c.opened (Some c.bits) None
 
+-- w is what the cost at place k gives, whatever is read for a place past the end
+abbrev pub WeightAt : {C W : Type 0} → (C → Option W) → List C → ℕ → Option W → Type 0
+WeightAt {C} f cs k w = (o : C) → w ≡ f (get_or cs k o)
+
 -- w is what the link at place k gives, of these costs
 abbrev pub Weighed : {C W : Type 0} → (C → Option W) → List C → ℕ → Option W → Type 0
-Weighed {C} f cs k w = (k < length cs) × ((o : C) → w ≡ f (get_or cs k o))
+Weighed f cs k w = (k < length cs) × WeightAt f cs k w
 
 -- the arcs are what each link gives, one after the other: those of the links of an integer map
 pub arcs_flat : {C : Type 0} (d : Bool) (ls : List (Link C)) → flat (arcs_of d) ls ≡ arcs d ls
